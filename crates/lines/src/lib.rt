@@ -1,0 +1,97 @@
+// Bytes of a line: characters, words and blanks, and the operation field.
+ghost use mathlib.Core.Path.{_≡_};
+ghost use Rattle.lines.specs.Characters.{character, characters};
+ghost use Rattle.lines.specs.Fields.{comment, firstBlank, firstWord, operationOf, pastBlanks, pastWord, word};
+ghost use lib.ListN.{length};
+ghost use Prim.Native.Nat.{_≤_};
+
+pub const BLANK: u8 = 32;
+pub const STAR: u8 = 42;
+const FIRST_CHARACTER: u8 = 32;
+const LAST_CHARACTER: u8 = 126;
+
+// Is the byte a character of the panel's alphabet?
+pub fn is_character(byte: u8) -> bool
+    ensures { λ r. ⌜ r ≡ character byte ⌝ }
+{
+    FIRST_CHARACTER <= byte && byte <= LAST_CHARACTER
+}
+
+// Are all bytes characters?
+pub fn all_characters(bytes: &[u8]) -> bool
+    ensures { λ r. ⌜ r ≡ characters (now (bytes .entry)) ⌝ }
+{
+    for byte in bytes {
+        if !is_character(*byte) {
+            return false;
+        }
+    }
+    true
+}
+
+// How many bytes stand before the first blank.
+fn word_length(bytes: &[u8]) -> usize
+    ensures value { λ r. ⌜ r ≡ firstBlank (now (bytes .entry)) ⌝ }
+    ensures bound { λ r. ⌜ r ≤ length (now (bytes .entry)) ⌝ }
+{
+    for (i, byte) in bytes.iter().enumerate() {
+        if *byte == BLANK {
+            return i;
+        }
+    }
+    bytes.len()
+}
+
+// How many blanks stand before the first byte that is none.
+fn blanks_length(bytes: &[u8]) -> usize
+    ensures value { λ r. ⌜ r ≡ firstWord (now (bytes .entry)) ⌝ }
+    ensures bound { λ r. ⌜ r ≤ length (now (bytes .entry)) ⌝ }
+{
+    for (i, byte) in bytes.iter().enumerate() {
+        if *byte != BLANK {
+            return i;
+        }
+    }
+    bytes.len()
+}
+
+// The bytes before the first blank.
+fn first_word(bytes: &[u8]) -> &[u8]
+    ensures { λ r. ⌜ now r ≡ word (now (bytes .entry)) ⌝ }
+{
+    let length = word_length(bytes);
+    &bytes[0..length]
+}
+
+// What follows the first word and the blanks after it.
+fn past_word(bytes: &[u8]) -> &[u8]
+    ensures { λ r. ⌜ now r ≡ pastWord (now (bytes .entry)) ⌝ }
+{
+    let length = word_length(bytes);
+    past_blanks(&bytes[length..])
+}
+
+// What follows the blanks that stand first.
+fn past_blanks(bytes: &[u8]) -> &[u8]
+    ensures { λ r. ⌜ now r ≡ pastBlanks (now (bytes .entry)) ⌝ }
+{
+    let length = blanks_length(bytes);
+    &bytes[length..]
+}
+
+// Is the line a comment, with a star in column 1?
+pub fn is_comment(line: &[u8]) -> bool
+    ensures { λ r. ⌜ r ≡ comment (now (line .entry)) ⌝ }
+{
+    line.len() > 0 && line[0] == STAR
+}
+
+// The operation field of a line: empty for a comment and for a line that has none.
+pub fn operation(line: &[u8]) -> &[u8]
+    ensures { λ r. ⌜ now r ≡ operationOf (now (line .entry)) ⌝ }
+{
+    if is_comment(line) {
+        return &line[0..0];
+    }
+    first_word(past_word(line))
+}
