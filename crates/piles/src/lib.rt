@@ -1,0 +1,6 @@
+// Lists of requests to any pile, with what holds of every list.
+pub mod request;
+pub mod requests;
+
+pub use request::Request;
+pub use requests::make_requests;
