@@ -7,6 +7,7 @@ ghost use Prim.Native.Nat.{_≤_};
 
 pub const BLANK: u8 = 32;
 pub const STAR: u8 = 42;
+pub const LINE_END: u8 = 10;
 const FIRST_CHARACTER: u8 = 32;
 const LAST_CHARACTER: u8 = 126;
 

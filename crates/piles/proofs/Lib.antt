@@ -1,3 +1,4 @@
 pub mod Sums
 pub mod Facts
 pub mod Promises
+pub mod Same

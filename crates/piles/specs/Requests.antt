@@ -110,3 +110,17 @@ pub record Promise {K : Type 0} (meaning : K → Remains) (tick : K → K) (k k�
   pub more : (extra : ℕ) (us : List (List ℕ)) → Longest (meaning k) (stepsBy after + extra) us → Begins (linesBy after) us
   -- the ending is told exactly when all prices, its own too, are paid
   pub ending : Untold (meaning k) → EndsBy after ↔ (stepsBy after ≡ total (meaning k))
+
+-- two lists ask the same: the same grants and the same bytes in the buffers
+abbrev pub SameRequests : List Request → List Request → Type 0
+SameRequests [] [] = Unit {0}
+SameRequests [] (y ∷ ys) = ⊥
+SameRequests (x ∷ xs) [] = ⊥
+SameRequests (x ∷ xs) (y ∷ ys) = (x .grant ≡ y .grant) × (bytesOf x ≡ bytesOf y) × SameRequests xs ys
+
+-- two lists are answered the same: the same replies and the same bytes in the buffers
+abbrev pub SameAnswers : List Request → List Request → Type 0
+SameAnswers [] [] = Unit {0}
+SameAnswers [] (y ∷ ys) = ⊥
+SameAnswers (x ∷ xs) [] = ⊥
+SameAnswers (x ∷ xs) (y ∷ ys) = (x .reply ≡ y .reply) × (bytesOf x ≡ bytesOf y) × SameAnswers xs ys

@@ -25,3 +25,4 @@ pub use requests::deliver;
 pub use requests::refusal;
 pub use source::Source;
 pub use text::TextSource;
+pub use texts::TextLines;

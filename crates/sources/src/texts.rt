@@ -23,8 +23,9 @@ use crate::requests::deliver;
 use crate::requests::refusal;
 use crate::source::Source;
 use crate::text::TextSource;
+use lines::LINE_END;
 
-const LINE_END: u8 = 10;
+
 
 impl<'a> TextSource<'a> {
     // The text from its first line on.

@@ -1,0 +1,89 @@
+// Every byte that EXPAND prints.
+ghost use mathlib.Core.Path.{_≡_};
+ghost use Prim.Native.Nat.{_<_, _^_};
+ghost use lib.Dec.{leb};
+ghost use Rattle.std.specs.Of.String.{string-bytes};
+ghost use Rattle.std.specs.Of.Vec.{vec-items};
+ghost use Rattle.std.specs.Vec.{made};
+ghost use Rattle.piles.specs.Prices.{total};
+ghost use Rattle.listing.specs.Listing.{endingShown, expandListing, faultShown, listed};
+use lines::LINE_END;
+use sources::Ending;
+use sources::Heard;
+use sources::Source;
+use sources::TextLines;
+use sources::TextSource;
+use sources::ask;
+use sources::source::MOST_STEPS;
+use std::alloc::AllocError;
+use std::alloc::Global;
+
+// The most bytes of a site file.
+pub const SITE_BYTES: usize = 65_536;
+
+// The number told of a file with more.
+const TOO_LARGE: u16 = 17;
+
+// The bytes that EXPAND prints for a site file.
+pub fn listing(heap: Global, site: &[u8]) -> Result<Vec<u8>, AllocError>
+    ensures { λ r. ⌜ made r (λ v. vec-items v ≡ expandListing (now (site .entry))) ⌝ }
+{
+    if site.len() > SITE_BYTES {
+        return bytes_of(heap, fault_line(heap, TOO_LARGE, 0, 0, 0, 0)?);
+    }
+    let mut source = TextSource::new(site);
+    list(heap, &mut source)
+}
+
+// The lines of a source and its ending.
+fn list<S: Source>(heap: Global, source: &mut S) -> Result<Vec<u8>, AllocError>
+    requires { ⌜ total (S·Source .meaning (S·Source .kept (now source))) < 2 ^ 64 ⌝ }
+    ensures { λ r. ⌜ made r (λ v. vec-items v ≡ listed (S·Source .meaning (S·Source .kept (now (source .entry))))) ⌝ }
+{
+    let mut out = Vec::new(heap);
+    let mut lines: u64 = 0;
+    let mut steps: u64 = 0;
+    loop {
+        let Ok(hearing) = ask(source, MOST_STEPS) else {
+            return unreachable();
+        };
+        steps += u64::from(hearing.spent);
+        match hearing.heard {
+            Heard::Got(line) => {
+                out.extend_from_slice(line.text())?;
+                out.push(LINE_END)?;
+                lines += 1;
+            }
+            Heard::Waits => {}
+            Heard::Over(ending) => {
+                let last = ending_line(heap, ending, lines, steps)?;
+                out.extend_from_slice(last.as_bytes())?;
+                return Ok(out);
+            }
+        }
+    }
+}
+
+// The line that tells the ending.
+fn ending_line(heap: Global, ending: Ending, lines: u64, steps: u64) -> Result<String, AllocError>
+    ensures { λ r. ⌜ made r (λ s. string-bytes s ≡ endingShown ending lines steps) ⌝ }
+{
+    match ending {
+        Ending::End => format!(heap, "* END {lines} {steps}\n"),
+        Ending::Failed(fault) => fault_line(heap, fault.cause.number(), fault.depth, fault.line, fault.definition.0, fault.statement.0),
+    }
+}
+
+// The line that tells a fault.
+fn fault_line(heap: Global, number: u16, depth: u8, line: u32, definition: u16, statement: u16) -> Result<String, AllocError>
+    ensures { λ r. ⌜ made r (λ s. string-bytes s ≡ faultShown number depth line definition statement) ⌝ }
+{
+    format!(heap, "* FAULT {number} {depth} {line} {definition} {statement}\n")
+}
+
+// The bytes of a text.
+fn bytes_of(heap: Global, text: String) -> Result<Vec<u8>, AllocError>
+    ensures { λ r. ⌜ made r (λ v. vec-items v ≡ string-bytes text) ⌝ }
+{
+    text.as_bytes().to_vec(heap)
+}
