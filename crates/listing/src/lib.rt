@@ -5,11 +5,14 @@ ghost use lib.Dec.{leb};
 ghost use Rattle.std.specs.Of.String.{string-bytes};
 ghost use Rattle.std.specs.Of.Vec.{vec-items};
 ghost use Rattle.std.specs.Vec.{made};
+ghost use mathlib.Core.List.{_++_, _∷_, []};
+ghost use Rattle.sources.specs.Hearings.{textOf};
 ghost use Rattle.piles.specs.Prices.{total};
 ghost use Rattle.listing.specs.Listing.{endingShown, expandListing, faultShown, listed};
 use lines::LINE_END;
 use sources::Ending;
 use sources::Heard;
+use sources::Line;
 use sources::Source;
 use sources::TextLines;
 use sources::TextSource;
@@ -50,8 +53,7 @@ fn list<S: Source>(heap: Global, source: &mut S) -> Result<Vec<u8>, AllocError>
         steps += u64::from(hearing.spent);
         match hearing.heard {
             Heard::Got(line) => {
-                out.extend_from_slice(line.text())?;
-                out.push(LINE_END)?;
+                print_line(&mut out, &line)?;
                 lines += 1;
             }
             Heard::Waits => {}
@@ -62,6 +64,15 @@ fn list<S: Source>(heap: Global, source: &mut S) -> Result<Vec<u8>, AllocError>
             }
         }
     }
+}
+
+// Appends a line and its byte 10.
+fn print_line(out: &mut Vec<u8>, line: &Line) -> Result<(), AllocError>
+    ensures { λ r. ⌜ made r (λ _. vec-items (now (out .exit)) ≡ vec-items (now (out .entry)) ++ textOf (now (line .entry)) ++ 10 ∷ []) ⌝ }
+{
+    out.extend_from_slice(line.text())?;
+    out.push(LINE_END)?;
+    Ok(())
 }
 
 // The line that tells the ending.
