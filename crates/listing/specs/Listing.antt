@@ -18,10 +18,13 @@ abbrev pub linesShown : List Priced → List ℕ
 linesShown [] = []
 linesShown (p ∷ ps) = p .text ++ (10 ∷ linesShown ps)
 
+-- the five numbers of a fault: number, depth, line, definition and statement
+abbrev pub partsShown : ℕ → ℕ → ℕ → ℕ → ℕ → List ℕ
+partsShown n d l f s = decimal n ++ (codes " " ++ (decimal d ++ (codes " " ++ (decimal l ++ (codes " " ++ (decimal f ++ (codes " " ++ (decimal s ++ (10 ∷ [])))))))))
+
 -- "* FAULT number depth line definition statement"
 abbrev pub faultShown : ℕ → ℕ → ℕ → ℕ → ℕ → List ℕ
-faultShown n d l f s =
-    codes "* FAULT " ++ (decimal n ++ (codes " " ++ (decimal d ++ (codes " " ++ (decimal l ++ (codes " " ++ (decimal f ++ (codes " " ++ (decimal s ++ (10 ∷ []))))))))))
+faultShown n d l f s = codes "* FAULT " ++ partsShown n d l f s
 
 -- "* END lines steps", or the fault
 abbrev pub endingShown : Ending → ℕ → ℕ → List ℕ

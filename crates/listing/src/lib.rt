@@ -1,14 +1,14 @@
 // Every byte that EXPAND prints.
 ghost use mathlib.Core.Path.{_≡_};
 ghost use Prim.Native.Nat.{_<_, _^_};
-ghost use lib.Dec.{leb};
+ghost use lib.Chars.{codes};
 ghost use Rattle.std.specs.Of.String.{string-bytes};
 ghost use Rattle.std.specs.Of.Vec.{vec-items};
 ghost use Rattle.std.specs.Vec.{made};
 ghost use mathlib.Core.List.{_++_, _∷_, []};
 ghost use Rattle.sources.specs.Hearings.{textOf};
 ghost use Rattle.piles.specs.Prices.{total};
-ghost use Rattle.listing.specs.Listing.{endingShown, expandListing, faultShown, listed};
+ghost use Rattle.listing.specs.Listing.{endingShown, expandListing, listed, partsShown};
 use lines::LINE_END;
 use sources::Ending;
 use sources::Heard;
@@ -87,13 +87,21 @@ fn ending_line(heap: Global, ending: Ending, lines: u64, steps: u64) -> Result<S
 
 // The line that tells a fault.
 fn fault_line(heap: Global, number: u16, depth: u8, line: u32, definition: u16, statement: u16) -> Result<String, AllocError>
-    ensures { λ r. ⌜ made r (λ s. string-bytes s ≡ faultShown number depth line definition statement) ⌝ }
+    ensures { λ r. ⌜ made r (λ s. string-bytes s ≡ codes "* FAULT " ++ partsShown number depth line definition statement) ⌝ }
 {
-    format!(heap, "* FAULT {number} {depth} {line} {definition} {statement}\n")
+    let parts = fault_parts(heap, number, depth, line, definition, statement)?;
+    format!(heap, "* FAULT {parts}")
+}
+
+// The five numbers of a fault, parted by blanks, and byte 10.
+pub fn fault_parts(heap: Global, number: u16, depth: u8, line: u32, definition: u16, statement: u16) -> Result<String, AllocError>
+    ensures { λ r. ⌜ made r (λ s. string-bytes s ≡ partsShown number depth line definition statement) ⌝ }
+{
+    format!(heap, "{number} {depth} {line} {definition} {statement}\n")
 }
 
 // The bytes of a text.
-fn bytes_of(heap: Global, text: String) -> Result<Vec<u8>, AllocError>
+pub fn bytes_of(heap: Global, text: String) -> Result<Vec<u8>, AllocError>
     ensures { λ r. ⌜ made r (λ v. vec-items v ≡ string-bytes text) ⌝ }
 {
     text.as_bytes().to_vec(heap)
