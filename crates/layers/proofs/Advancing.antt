@@ -66,9 +66,9 @@ module _ {S K : Type 0} (r : Rule S) (falls : Falls r) (meaning : K → Remains)
       → Advanced r meaning tick (laid None s k) (done (r .works s) k) g 1 o
   unfolding laidMeaning laidTick
   worked s k g o busy fits told = record {
-      meant = deed-meant (r .works s) 0 g s k (meaning k) (layered r s (meaning k)) o fits refl (layered-busy r falls s (meaning k) busy) told;
-      reached = ap (λ z. stepping r meaning tick z s k) (sym busy);
-    }
+    meant = deed-meant (r .works s) 0 g s k (meaning k) (layered r s (meaning k)) o fits refl (layered-busy r falls s (meaning k) busy) told;
+    reached = ap (λ z. stepping r meaning tick z s k) (sym busy);
+  }
 
   -- the steps that the source below charges for a line
   charging : (b : ℕ) (s : S) (k : K) (t : List ℕ) (ps : List Priced) → r .busy s ≡ false → meaning k .lines ≡ record { text = t; beyond = b } ∷ ps
@@ -221,9 +221,12 @@ module _ {S K : Type 0} (r : Rule S) (falls : Falls r) (meaning : K → Remains)
       → (s + n ≤ g) × (laidMeaning r meaning from ≡ delay (s + n) (laidMeaning r meaning to)) × (to ≡ iterate (laidTick r meaning tick) (s + n) from) × (0 < n)
   goes-on from mid to g s n h fits meant reached a none =
       let P : Option Heard → Type 0 = λ x. Advances (laidMeaning r meaning mid) (laidMeaning r meaning to) (g - s) n x in
-      let b = subst P none (a .meant) in
-      (omega arith, meant ∙ ap (delay s) (b .0) ∙ delay-joins s n (laidMeaning r meaning to),
-        a .reached ∙ ap (iterate (laidTick r meaning tick) n) reached ∙ iterate-joins (laidTick r meaning tick) s n from, b .1)
+      let b = subst P none (a .meant) in (
+        omega arith,
+        meant ∙ ap (delay s) (b .0) ∙ delay-joins s n (laidMeaning r meaning to),
+        a .reached ∙ ap (iterate (laidTick r meaning tick) n) reached ∙ iterate-joins (laidTick r meaning tick) s n from,
+        b .1,
+      )
 
   pub turns : (from mid to : Laid S K) (g s n : ℕ) (o : Option Heard) (h : Heard) → s ≤ g → laidMeaning r meaning from ≡ delay s (laidMeaning r meaning mid)
       → mid ≡ iterate (laidTick r meaning tick) s from → Advanced r meaning tick mid to (g - s) n o → o ≡ Some h

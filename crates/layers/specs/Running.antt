@@ -52,6 +52,7 @@ module _ {S : Type 0} (r : Rule S) (falls : Falls r) where
     where
       idle : S → Remains
       idle = taking r (m .lines) (m .ending) (m .due)
+
       go : (n : ℕ) → r .bound s ≡ n → working r n idle s ≡ by (r .works s) 0 (λ t. working r (r .bound t) idle t)
       go zero b = let p = fewer-some (r .works s) (r .bound s) (falls s e) in absurd (omega arith)
       go (suc n) b =
@@ -65,6 +66,7 @@ module _ {S : Type 0} (r : Rule S) (falls : Falls r) where
     where
       idle : S → Remains
       idle = taking r (m .lines) (m .ending) (m .due)
+
       go : (n : ℕ) → working r n idle s ≡ idle s
       go zero = refl
       go (suc n) = ap (λ z. workOr z r s (working r n idle) idle) e

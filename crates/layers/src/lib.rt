@@ -1,9 +1,9 @@
 // Layers over any source: the engine that runs any machine, and the END layer.
-pub mod machine;
-pub mod machines;
-pub mod layered;
 pub mod end;
 pub mod ends;
+pub mod layered;
+pub mod machine;
+pub mod machines;
 
 pub use end::EndMachine;
 pub use ends::EndRule;

@@ -6,9 +6,13 @@ ghost use lib.ListN.{length};
 ghost use Prim.Native.Nat.{_≤_};
 
 pub const BLANK: u8 = 32;
+
 pub const STAR: u8 = 42;
+
 pub const LINE_END: u8 = 10;
+
 const FIRST_CHARACTER: u8 = 32;
+
 const LAST_CHARACTER: u8 = 126;
 
 // Is the byte a character of the panel's alphabet?

@@ -31,7 +31,7 @@ prints m₀ m m′ out n s k g l p (b, ps, line, costs, fits) after =
     let is : m ≡ remaining (record { text = textOf l; beyond = b } ∷ ps) (m .ending) (m .due) = ap (λ qs. remaining qs (m .ending) (m .due)) line in
     let a : m′ ≡ remaining ps (m .ending) (m .due) = after ∙ ap₂ spend is costs ∙ spend-whole b (textOf l) ps (m .ending) (m .due) in
     let shown : (out ++ textOf l ++ 10 ∷ []) ++ linesShown ps ≡ out ++ linesShown (m .lines) =
-        append-assoc (out ++ textOf l) (10 ∷ []) (linesShown ps) ∙ append-assoc out (textOf l) (10 ∷ linesShown ps) ∙ ap (λ qs. out ++ linesShown qs) (sym line) in
+    append-assoc (out ++ textOf l) (10 ∷ []) (linesShown ps) ∙ append-assoc out (textOf l) (10 ∷ linesShown ps) ∙ ap (λ qs. out ++ linesShown qs) (sym line) in
     let t = ap total a in
     let u = ap total is in
     let c = ap (λ x. length (x .lines)) a in
@@ -62,7 +62,7 @@ waits m₀ m m′ out n s k g p (above, whole) after = go (m .lines) refl
         let f = ap (λ qs. firstPrice qs (m .due)) e in
         let is : m ≡ remaining (q ∷ ps) (m .ending) (m .due) = ap (λ qs. remaining qs (m .ending) (m .due)) e in
         let a : m′ ≡ remaining (record { text = q .text; beyond = q .beyond - k } ∷ ps) (m .ending) (m .due) =
-            after ∙ ap (λ x. spend x k) is ∙ spend-short k (q .beyond) (q .text) ps (m .ending) (m .due) (omega arith) in
+        after ∙ ap (λ x. spend x k) is ∙ spend-short k (q .beyond) (q .text) ps (m .ending) (m .due) (omega arith) in
         let t = ap total a in
         let u = ap total is in
         let c = ap (λ x. length (x .lines)) a in

@@ -81,12 +81,26 @@ fn ending_line(heap: Global, ending: Ending, lines: u64, steps: u64) -> Result<S
 {
     match ending {
         Ending::End => format!(heap, "* END {lines} {steps}\n"),
-        Ending::Failed(fault) => fault_line(heap, fault.cause.number(), fault.depth, fault.line, fault.definition.0, fault.statement.0),
+        Ending::Failed(fault) => fault_line(
+            heap,
+            fault.cause.number(),
+            fault.depth,
+            fault.line,
+            fault.definition.0,
+            fault.statement.0,
+        ),
     }
 }
 
 // The line that tells a fault.
-fn fault_line(heap: Global, number: u16, depth: u8, line: u32, definition: u16, statement: u16) -> Result<String, AllocError>
+fn fault_line(
+    heap: Global,
+    number: u16,
+    depth: u8,
+    line: u32,
+    definition: u16,
+    statement: u16,
+) -> Result<String, AllocError>
     ensures { λ r. ⌜ made r (λ s. string-bytes s ≡ codes "* FAULT " ++ partsShown number depth line definition statement) ⌝ }
 {
     let parts = fault_parts(heap, number, depth, line, definition, statement)?;
@@ -94,7 +108,14 @@ fn fault_line(heap: Global, number: u16, depth: u8, line: u32, definition: u16, 
 }
 
 // The five numbers of a fault, parted by blanks, and byte 10.
-pub fn fault_parts(heap: Global, number: u16, depth: u8, line: u32, definition: u16, statement: u16) -> Result<String, AllocError>
+pub fn fault_parts(
+    heap: Global,
+    number: u16,
+    depth: u8,
+    line: u32,
+    definition: u16,
+    statement: u16,
+) -> Result<String, AllocError>
     ensures { λ r. ⌜ made r (λ s. string-bytes s ≡ partsShown number depth line definition statement) ⌝ }
 {
     format!(heap, "{number} {depth} {line} {definition} {statement}\n")
@@ -105,4 +126,21 @@ pub fn bytes_of(heap: Global, text: String) -> Result<Vec<u8>, AllocError>
     ensures { λ r. ⌜ made r (λ v. vec-items v ≡ string-bytes text) ⌝ }
 {
     text.as_bytes().to_vec(heap)
+}
+
+#[cfg(test)]
+mod tests {
+    use super::*;
+    use std::test::*;
+
+    // A file of just the largest size is read, and one byte more is fault 17.
+    #[test]
+    fn sizes(rt: LibcRuntime) -> Result<(), Fail> {
+        let mut site = vec![in rt.alloc(); lines::BLANK; SITE_BYTES]?;
+        let read = listing(rt.alloc(), site.as_slice())?;
+        check(read.as_slice() == b"* FAULT 3 0 1 0 0\n")?;
+        site.push(lines::BLANK)?;
+        let refused = listing(rt.alloc(), site.as_slice())?;
+        check(refused.as_slice() == b"* FAULT 17 0 0 0 0\n")
+    }
 }

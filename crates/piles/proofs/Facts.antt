@@ -86,12 +86,12 @@ reply-facts m old g = go (refusalOf (length old) g) refl
   where
     go : (o : Option Refusal) → refusalOf (length old) g ≡ o → ReplyFacts m old g (replying o m old g .answer) (replying o m old g .buffer)
     go (Some x) e = record {
-        within = omega arith;
-        lines = λ h. sym (handed-none (m .lines));
-        ends = λ h. absurd h;
-        ended = λ h k. absurd (omega arith);
-        holds = λ k. let z : _≡_ {A = ℕ} 0 1 = cc in absurd (omega arith);
-      }
+      within = omega arith;
+      lines = λ h. sym (handed-none (m .lines));
+      ends = λ h. absurd h;
+      ended = λ h k. absurd (omega arith);
+      holds = λ k. let z : _≡_ {A = ℕ} 0 1 = cc in absurd (omega arith);
+    }
     go None e =
         let f = turn-facts (m .lines) (m .ending) (m .due) old g in
         record { within = f .within; lines = f .lines; ends = f .ends; ended = f .ended; holds = λ k. f .holds }

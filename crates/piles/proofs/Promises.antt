@@ -149,7 +149,7 @@ module _ {K : Type 0} (meaning : K → Remains) (tick : K → K) (paced : Paced 
       → Each meaning tick k 0 (take i old) (take i cur) → drop i cur ≡ drop i old → now ≡ iterate tick (stepsBy (take i cur)) k
       → Served (meaning now) (getD cur i d) a → now′ ≡ iterate tick (stepsOf a) now
       → Each meaning tick k 0 (take (i + 1) old) (take (i + 1) (set cur i a)) × (drop (i + 1) (set cur i a) ≡ drop (i + 1) old)
-          × (now′ ≡ iterate tick (stepsBy (take (i + 1) (set cur i a))) k)
+      × (now′ ≡ iterate tick (stepsBy (take (i + 1) (set cur i a))) k)
   made-more k now now′ i old cur d a w same each rest reached served moved =
       let w′ : i < length cur = omega arith in
       let p = drop-more cur i d w′ in
@@ -164,11 +164,12 @@ module _ {K : Type 0} (meaning : K → Remains) (tick : K → K) (paced : Paced 
       let s = subst N (sym (zero-add (stepsBy (take i cur)))) (subst R head (subst S reached served)) in
       let pushed = each-push k 0 (take i old) (take i cur) (getD old i d) a each s in
       let E : List Request → Type 0 = λ xs. Each meaning tick k 0 xs (take i cur ++ a ∷ []) in
-      let F : List Request → Type 0 = λ ys. Each meaning tick k 0 (take (i + 1) old) ys in
-      (subst F (sym news) (subst E (sym olds) pushed),
+      let F : List Request → Type 0 = λ ys. Each meaning tick k 0 (take (i + 1) old) ys in (
+        subst F (sym news) (subst E (sym olds) pushed),
         drop-set-lt (i + 1) cur i a (omega arith) ∙ tail,
         moved ∙ ap (iterate tick (stepsOf a)) reached ∙ iterate-joins tick (stepsBy (take i cur)) (stepsOf a) k
-        ∙ ap (λ n. iterate tick n k) (sym (ap stepsBy news ∙ steps-push (take i cur) a)))
+            ∙ ap (λ n. iterate tick n k) (sym (ap stepsBy news ∙ steps-push (take i cur) a)),
+      )
 
   pub made-all : (k now : K) (i : ℕ) (old cur : List Request) → length old ≤ i → length cur ≡ length old
       → Each meaning tick k 0 (take i old) (take i cur) → now ≡ iterate tick (stepsBy (take i cur)) k → Promise meaning tick k now old cur

@@ -27,7 +27,7 @@ module _ {K L : Type 0} (meaning : K → Remains) (tick : K → K) (paced : Pace
   each-same k l n n′ (b ∷ bs) (c ∷ cs) (d ∷ ds) [] e i q x y = absurd y
   each-same k l n n′ (b ∷ bs) (c ∷ cs) (d ∷ ds) (f ∷ fs) e i (g, o, q) (m, x) (m′, y) =
       let at : meaning (iterate tick n k) ≡ means (iterate ticks n′ l) =
-          paced-spend meaning tick paced n k ∙ ap₂ spend e i ∙ sym (paced-spend means ticks paces n′ l) in
+      paced-spend meaning tick paced n k ∙ ap₂ spend e i ∙ sym (paced-spend means ticks paces n′ l) in
       let s = served-same (meaning (iterate tick n k)) (means (iterate ticks n′ l)) b d c f at g o (m .served) (m′ .served) in
       let j : n + stepsOf c ≡ n′ + stepsOf f = ap₂ (λ u v. u + v) i (ap stepsIn (s .0)) in
       (s .0, s .1, each-same k l (n + stepsOf c) (n′ + stepsOf f) bs cs ds fs e j q x y)

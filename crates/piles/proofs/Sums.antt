@@ -48,16 +48,16 @@ module _ (e : Ending) (d : ℕ) (P : List Priced → ℕ → Remains → Type 0)
     (none : (n : ℕ) → P [] n (remaining [] e (d - n)))
     (short : (p : Priced) (ps : List Priced) (n : ℕ) → n < price p → P (p ∷ ps) n (remaining (record { text = p .text; beyond = p .beyond - n } ∷ ps) e d))
     (past : (p : Priced) (ps : List Priced) (n : ℕ) → price p ≤ n → P ps (n - price p) (spend (remaining ps e d) (n - price p)) → P (p ∷ ps) n (spend (remaining ps e d) (n - price p)))
-    where
-  pub spend-cases : (ps : List Priced) (n : ℕ) → P ps n (spend (remaining ps e d) n)
-  spend-cases [] n = subst (P [] n) (sym (spend-end e d n)) (none n)
-  spend-cases (p ∷ ps) n = go (leb (price p) n) refl (spend-cases ps (n - price p))
-    where
-      go : (z : Bool) → leb (price p) n ≡ z → P ps (n - price p) (spend (remaining ps e d) (n - price p)) → P (p ∷ ps) n (spend (remaining (p ∷ ps) e d) n)
-      go true t ih = let w = leb-true (price p) n t in subst (P (p ∷ ps) n) (sym (spend-past p ps e d n w)) (past p ps n w ih)
-      go false t ih =
-          let w = leb-false (price p) n t in
-          subst (P (p ∷ ps) n) (sym (spend-short n (p .beyond) (p .text) ps e d (omega arith))) (short p ps n w)
+  where
+    pub spend-cases : (ps : List Priced) (n : ℕ) → P ps n (spend (remaining ps e d) n)
+    spend-cases [] n = subst (P [] n) (sym (spend-end e d n)) (none n)
+    spend-cases (p ∷ ps) n = go (leb (price p) n) refl (spend-cases ps (n - price p))
+      where
+        go : (z : Bool) → leb (price p) n ≡ z → P ps (n - price p) (spend (remaining ps e d) (n - price p)) → P (p ∷ ps) n (spend (remaining (p ∷ ps) e d) n)
+        go true t ih = let w = leb-true (price p) n t in subst (P (p ∷ ps) n) (sym (spend-past p ps e d n w)) (past p ps n w ih)
+        go false t ih =
+            let w = leb-false (price p) n t in
+            subst (P (p ∷ ps) n) (sym (spend-short n (p .beyond) (p .text) ps e d (omega arith))) (short p ps n w)
 
 -- what is left of the price is the price next
 pub left-is : (m : Remains) (n : ℕ) → left m n ≡ nextPrice (spend m n)
@@ -107,10 +107,10 @@ handed-joins m n k = spend-cases (m .ending) (m .due) (λ ps j x. handedBy ps (j
     (λ j. refl)
     (λ p ps j w. handed-short p ps j k w)
     (λ p ps j w ih.
-        let t : leb (price p) j ≡ true = le-leb (price p) j w in
-        let u : leb (price p) (j + k) ≡ true = le-leb (price p) (j + k) (omega arith) in
-        let s : (j + k) - price p ≡ (j - price p) + k = omega arith in
-        simp (t, u, s) (ap (λ ts. p .text ∷ ts) ih))
+    let t : leb (price p) j ≡ true = le-leb (price p) j w in
+    let u : leb (price p) (j + k) ≡ true = le-leb (price p) (j + k) (omega arith) in
+    let s : (j + k) - price p ≡ (j - price p) + k = omega arith in
+    simp (t, u, s) (ap (λ ts. p .text ∷ ts) ih))
     (m .lines) n
 
 pub handed-none : (ps : List Priced) → handedBy ps 0 ≡ []

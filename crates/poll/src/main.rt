@@ -1,44 +1,16 @@
 // POLL: puts layers over a text from standard input, makes a list of requests, and prints each reply.
 use listing::SITE_BYTES;
-use piles::Request;
 use polling::poll_pile;
 use polling::reply_line;
+use polling::requests_for;
 use polling::shape_named;
-use std::alloc::Global;
 use std::env;
 use std::error::AnyError;
 use std::io::Read;
 use std::io::Write;
 
-const USAGE: &str = "use: poll LAYERS REQUESTS, with a text on standard input.\nLAYERS: -, E, EE, EEE or EEEE, the bottom layer first. REQUESTS: grant or grant/bufferlength, parted by commas.";
-
-// The length of a buffer where a request names none.
-const BUFFER_BYTES: usize = 80;
-
-// What a buffer holds before its request.
-const UNUSED: u8 = b'.';
-
-// A request for `grant` or `grant/bufferlength`.
-fn request_for(heap: Global, words: &str) -> Result<Request, AnyError> {
-    let (grant, size) = match words.split_once('/') {
-        Some((grant, size)) => (grant, size.parse::<usize>()?),
-        None => (words, BUFFER_BYTES),
-    };
-    Ok(Request {
-        buffer: vec![in heap; UNUSED; size]?,
-        grant: grant.parse::<u32>()?,
-        reply: None,
-    })
-}
-
-// The requests of a list parted by commas.
-fn requests_for(heap: Global, list: &str) -> Result<Vec<Request>, AnyError> {
-    let mut requests = Vec::new(heap);
-    for words in list.split(',') {
-        requests.push(request_for(heap, words)?)?;
-    }
-    Ok(requests)
-}
+const USAGE: &str =
+    "use: poll LAYERS REQUESTS, with a text on standard input.\nLAYERS: -, E, EE, EEE or EEEE, the bottom layer first. REQUESTS: grant or grant/bufferlength, parted by commas.";
 
 fn run(rt: &LibcRuntime) -> Result<(), AnyError> {
     let mut words = env::args(rt)?;
@@ -54,7 +26,8 @@ fn run(rt: &LibcRuntime) -> Result<(), AnyError> {
     rt.stdin().take(SITE_BYTES as u64).read_to_end(&mut site)?;
     poll_pile(shape, site.as_slice(), requests.as_mut_slice());
     for request in requests.iter() {
-        rt.stdout().write_all(reply_line(rt.alloc(), request)?.as_slice())?;
+        rt.stdout()
+            .write_all(reply_line(rt.alloc(), request)?.as_slice())?;
     }
     Ok(())
 }

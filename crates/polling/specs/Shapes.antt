@@ -1,7 +1,9 @@
 -- Piles of END layers over a text, and what a list of requests to one is answered.
 use Prim.Native.Nat.{ℕ, _+_}
 use mathlib.Core.List.{List, [], _∷_}
+use mathlib.Core.Path.{_≡_}
 use lib.Chars.{codes}
+use Rattle.std.specs.declared.option.Option.the-variants.{None}
 use Rattle.sources.specs.Meaning.{Remains, spend}
 use Rattle.sources.specs.Texts.{textRemains}
 use Rattle.layers.specs.Ends.{endRemains}
@@ -32,3 +34,8 @@ Answered m n [] [] = Unit {0}
 Answered m n [] (a ∷ cs) = ⊥
 Answered m n (b ∷ bs) [] = ⊥
 Answered m n (b ∷ bs) (a ∷ cs) = Served (spend m n) b a × Answered m (n + stepsOf a) bs cs
+
+-- no request is made yet
+abbrev pub Unmade : List Request → Type 0
+Unmade [] = Unit {0}
+Unmade (q ∷ qs) = (q .reply ≡ None) × Unmade qs

@@ -1,7 +1,6 @@
 // A reply as it is printed.
 ghost use mathlib.Core.Path.{_≡_};
 ghost use lib.ListN.{take};
-
 ghost use Rattle.std.specs.Of.String.{string-bytes};
 ghost use Rattle.std.specs.Of.Vec.{vec-items};
 ghost use Rattle.std.specs.Vec.{made};
@@ -73,12 +72,31 @@ fn end_line(heap: Global, spent: u32, ending: Ending) -> Result<Vec<u8>, AllocEr
 {
     match ending {
         Ending::End => bytes_of(heap, format!(heap, "end {spent}\n")?),
-        Ending::Failed(fault) => bytes_of(heap, fault_text(heap, spent, fault.cause.number(), fault.depth, fault.line, fault.definition.0, fault.statement.0)?),
+        Ending::Failed(fault) => bytes_of(
+            heap,
+            fault_text(
+                heap,
+                spent,
+                fault.cause.number(),
+                fault.depth,
+                fault.line,
+                fault.definition.0,
+                fault.statement.0,
+            )?,
+        ),
     }
 }
 
 // A fault with its five parts.
-fn fault_text(heap: Global, spent: u32, number: u16, depth: u8, line: u32, definition: u16, statement: u16) -> Result<String, AllocError>
+fn fault_text(
+    heap: Global,
+    spent: u32,
+    number: u16,
+    depth: u8,
+    line: u32,
+    definition: u16,
+    statement: u16,
+) -> Result<String, AllocError>
     ensures { λ r. ⌜ made r (λ s. string-bytes s ≡ faultTold spent number depth line definition statement) ⌝ }
 {
     let parts = fault_parts(heap, number, depth, line, definition, statement)?;

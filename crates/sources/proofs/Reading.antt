@@ -43,7 +43,7 @@ step-line o n e k rest piece after l none some ends cut clean is counts past =
     let later = reading (counted n) (linesOf (drop (firstEnd rest + 1) rest)) in
     let whole : piece ≡ take (firstEnd rest) rest = cut ∙ ap (λ i. take i rest) ends in
     let m : resting o n rest ≡ remaining (record { text = textOf l; beyond = 0 } ∷ later .lines) (later .ending) (later .due) =
-        ap (λ x. resting x n rest) none ∙ reading-first n rest some ∙ simp (← whole, clean, is) in
+    ap (λ x. resting x n rest) none ∙ reading-first n rest some ∙ simp (← whole, clean, is) in
     let a : resting o k after ≡ later = simp (none, counts, past, ends) in
     rw (m, a) (record { hears = λ g k. (0, later .lines, refl, refl, k); reached = refl })
 
@@ -54,7 +54,7 @@ unfolding pay
 step-fault o n e k rest piece c f none some ends cut flawed counts fault =
     let whole : piece ≡ take (firstEnd rest) rest = cut ∙ ap (λ i. take i rest) ends in
     let m : resting o n rest ≡ remaining [] f 1 =
-        ap (λ x. resting x n rest) none ∙ reading-first n rest some ∙ simp (← whole, flawed, fault, counts) in
+    ap (λ x. resting x n rest) none ∙ reading-first n rest some ∙ simp (← whole, flawed, fault, counts) in
     rw m (record { hears = λ g k. (refl, refl, refl, k); reached = refl })
 
 -- before its ending is told, what a text source has next costs one step

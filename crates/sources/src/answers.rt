@@ -2,11 +2,9 @@
 ghost use mathlib.Core.Path.{_≡_};
 ghost use Rattle.sources.specs.Faults.{refusalNumber};
 use crate::faults::Ending;
-use crate::faults::EndingDebug;
-use crate::faults::EndingPartialEq;
 
 // A bad call. Its number is `refusalNumber` of specs/Faults.
-#[derive(Clone, Copy, PartialEq, Eq, Debug)]
+#[derive(Clone, Copy)]
 pub enum Refusal {
     ShortBuffer,
     LargeGrant,
@@ -24,7 +22,7 @@ impl Refusal {
 }
 
 // What a request told.
-#[derive(Clone, Copy, PartialEq, Eq, Debug)]
+#[derive(Clone, Copy)]
 pub enum Told {
     // a line of this length stands in the buffer
     Line(usize),
@@ -33,7 +31,7 @@ pub enum Told {
     Ended(Ending),
 }
 
-#[derive(Clone, Copy, PartialEq, Eq, Debug)]
+#[derive(Clone, Copy)]
 pub struct Answer {
     pub spent: u32,
     pub told: Told,

@@ -6,7 +6,7 @@ ghost use Rattle.sources.specs.Faults.{causeNumber, counted, raised};
 pub const LAST_LINE: u32 = 999_999_999;
 
 // What is wrong with a file. Its number is `causeNumber` of specs/Faults.
-#[derive(Clone, Copy, PartialEq, Eq, Debug)]
+#[derive(Clone, Copy)]
 pub enum Cause {
     LineTooLong,
     BadCharacter,
@@ -24,14 +24,14 @@ impl Cause {
 }
 
 // The number of a definition in its library, from 1; 0 where no call is open.
-#[derive(Clone, Copy, PartialEq, Eq, Debug)]
+#[derive(Clone, Copy)]
 pub struct DefinitionNumber(pub u16);
 
 // The number of a statement in its definition, from 1; 0 where no call is open.
-#[derive(Clone, Copy, PartialEq, Eq, Debug)]
+#[derive(Clone, Copy)]
 pub struct StatementNumber(pub u16);
 
-#[derive(Clone, Copy, PartialEq, Eq, Debug)]
+#[derive(Clone, Copy)]
 pub struct Fault {
     pub cause: Cause,
     // how many layers it was passed up through, at most 255
@@ -42,7 +42,7 @@ pub struct Fault {
     pub statement: StatementNumber,
 }
 
-#[derive(Clone, Copy, PartialEq, Eq, Debug)]
+#[derive(Clone, Copy)]
 pub enum Ending {
     End,
     Failed(Fault),
@@ -78,5 +78,9 @@ impl Fault {
 pub fn count_line(taken: u32) -> u32
     ensures { λ r. ⌜ r ≡ counted taken ⌝ }
 {
-    if taken < LAST_LINE { taken + 1 } else { LAST_LINE }
+    if taken < LAST_LINE {
+        taken + 1
+    } else {
+        LAST_LINE
+    }
 }

@@ -1,13 +1,13 @@
 // Sources of priced lines: faults, answers and refusals, the trait every source meets, and the text source.
-pub mod faults;
 pub mod answers;
-pub mod line;
+pub mod faults;
 pub mod hearing;
-pub mod writing;
-pub mod source;
+pub mod line;
 pub mod requests;
+pub mod source;
 pub mod text;
 pub mod texts;
+pub mod writing;
 
 pub use answers::Answer;
 pub use answers::Refusal;

@@ -25,8 +25,6 @@ use crate::source::Source;
 use crate::text::TextSource;
 use lines::LINE_END;
 
-
-
 impl<'a> TextSource<'a> {
     // The text from its first line on.
     pub fn new(text: &'a [u8]) -> TextSource<'a>
