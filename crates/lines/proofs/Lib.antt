@@ -1,1 +1,4 @@
 pub mod Scans
+pub mod Nests
+pub mod Joins
+pub mod Commas

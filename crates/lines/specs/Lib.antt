@@ -1,2 +1,6 @@
 pub mod Characters
 pub mod Fields
+pub mod Kinds
+pub mod Nesting
+pub mod Laws
+pub mod Division

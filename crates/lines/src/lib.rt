@@ -1,4 +1,22 @@
 // Bytes of a line: characters, words and blanks, and the operation field.
+pub mod fields;
+pub mod field;
+pub mod kinds;
+pub mod nest;
+pub mod nesting;
+pub mod operations;
+
+pub use field::Fields;
+pub use field::Part;
+pub use fields::Division;
+pub use fields::divide;
+pub use fields::fields_of;
+pub use kinds::Kind;
+pub use nesting::COMMA;
+pub use nesting::is_closed;
+pub use nesting::outside_end;
+pub use operations::kind_of;
+
 ghost use mathlib.Core.Path.{_≡_};
 ghost use Rattle.lines.specs.Characters.{character, characters};
 ghost use Rattle.lines.specs.Fields.{comment, firstBlank, firstWord, operationOf, pastBlanks, pastWord, word};
@@ -61,7 +79,7 @@ fn blanks_length(bytes: &[u8]) -> usize
 }
 
 // The bytes before the first blank.
-fn first_word(bytes: &[u8]) -> &[u8]
+pub(crate) fn first_word(bytes: &[u8]) -> &[u8]
     ensures { λ r. ⌜ now r ≡ word (now (bytes .entry)) ⌝ }
 {
     let length = word_length(bytes);
@@ -69,7 +87,7 @@ fn first_word(bytes: &[u8]) -> &[u8]
 }
 
 // What follows the first word and the blanks after it.
-fn past_word(bytes: &[u8]) -> &[u8]
+pub(crate) fn past_word(bytes: &[u8]) -> &[u8]
     ensures { λ r. ⌜ now r ≡ pastWord (now (bytes .entry)) ⌝ }
 {
     let length = word_length(bytes);
@@ -77,7 +95,7 @@ fn past_word(bytes: &[u8]) -> &[u8]
 }
 
 // What follows the blanks that stand first.
-fn past_blanks(bytes: &[u8]) -> &[u8]
+pub(crate) fn past_blanks(bytes: &[u8]) -> &[u8]
     ensures { λ r. ⌜ now r ≡ pastBlanks (now (bytes .entry)) ⌝ }
 {
     let length = blanks_length(bytes);

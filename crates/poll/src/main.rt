@@ -9,19 +9,32 @@ use std::error::AnyError;
 use std::io::Read;
 use std::io::Write;
 
-const USAGE: &str =
-    "use: poll LAYERS REQUESTS, with a text on standard input.\nLAYERS: -, E, EE, EEE or EEEE, the bottom layer first. REQUESTS: grant or grant/bufferlength, parted by commas.";
+const USAGE: &str = "use: poll LAYERS REQUESTS, with a text on standard input";
+
+const LAYERS: &str = "LAYERS: -, E, EE, EEE or EEEE, the bottom layer first";
+
+const REQUESTS: &str = "REQUESTS: grant or grant/bufferlength, parted by commas; a grant is a number up to 4294967295";
+
+// Tells what the words should be.
+fn explain(rt: &LibcRuntime) -> Result<(), AnyError> {
+    rt.eprintln(USAGE)?;
+    rt.eprintln(LAYERS)?;
+    rt.eprintln(REQUESTS)?;
+    Err("words not understood".into())
+}
 
 fn run(rt: &LibcRuntime) -> Result<(), AnyError> {
     let mut words = env::args(rt)?;
     let _program = words.next();
     let (Some(layers), Some(list)) = (words.next(), words.next()) else {
-        return Err(USAGE.into());
+        return explain(rt);
     };
     let Some(shape) = shape_named(layers.as_str()) else {
-        return Err(USAGE.into());
+        return explain(rt);
     };
-    let mut requests = requests_for(rt.alloc(), list.as_str())?;
+    let Ok(mut requests) = requests_for(rt.alloc(), list.as_str()) else {
+        return explain(rt);
+    };
     let mut site = Vec::new(rt.alloc());
     rt.stdin().take(SITE_BYTES as u64).read_to_end(&mut site)?;
     poll_pile(shape, site.as_slice(), requests.as_mut_slice());
@@ -33,5 +46,5 @@ fn run(rt: &LibcRuntime) -> Result<(), AnyError> {
 }
 
 fn main(rt: LibcRuntime) -> Result<(), AnyError> {
-    rt.report(run(&rt))
+    run(&rt)
 }

@@ -1,0 +1,7 @@
+// How deep a byte stands in apostrophes and parentheses.
+
+#[derive(Clone, Copy)]
+pub struct Nest {
+    pub quoted: bool,
+    pub depth: usize,
+}
