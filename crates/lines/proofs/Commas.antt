@@ -28,7 +28,7 @@ first-part s (b ∷ bs) = go (eqb b 44 && outside s) (first-part (past s b) bs)
   where
     go : (z : Bool) → dividedFrom (past s b) bs ≡ take (endBy 44 (past s b) bs) bs ∷ partsAfter (ltb (endBy 44 (past s b) bs) (length bs)) (endBy 44 (past s b) bs) bs
         → cond z ([] ∷ dividedFrom start bs) (before b (dividedFrom (past s b) bs))
-          ≡ take (cond z 0 (suc (endBy 44 (past s b) bs))) (b ∷ bs) ∷ partsAfter (ltb (cond z 0 (suc (endBy 44 (past s b) bs))) (suc (length bs))) (cond z 0 (suc (endBy 44 (past s b) bs))) (b ∷ bs)
+        ≡ take (cond z 0 (suc (endBy 44 (past s b) bs))) (b ∷ bs) ∷ partsAfter (ltb (cond z 0 (suc (endBy 44 (past s b) bs))) (suc (length bs))) (cond z 0 (suc (endBy 44 (past s b) bs))) (b ∷ bs)
     go true ih = let t : ltb 0 (suc (length bs)) ≡ true = lt-ltb 0 (suc (length bs)) (omega arith) in rw t refl
     go false ih =
         let n = endBy 44 (past s b) bs in

@@ -8,7 +8,7 @@ use lib.ListN.{length, drop, getD}
 use Rattle.std.proofs.shelf.Lists.{drop-more, drop-all}
 use Rattle.std.proofs.shelf.Ways.{tells}
 use Rattle.lines.specs.Fields.{firstBy}
-use Rattle.lines.specs.Characters.{character, characters}
+use Rattle.lines.specs.Characters.{allBy}
 
 pub first-found : (p : ℕ → Bool) (bs : List ℕ) (i : ℕ) → i < length bs → p (getD bs i 0) ≡ true
     → i + firstBy p (drop i bs) ≡ firstBy p bs → i ≡ firstBy p bs
@@ -36,13 +36,12 @@ first-within p (b ∷ bs) = go (p b) (first-within p bs)
     go true ih = omega arith
     go false ih = omega arith
 
-pub characters-no : (bs : List ℕ) (i : ℕ) → i < length bs → character (getD bs i 0) ≡ false
-    → characters (drop i bs) ≡ characters bs → false ≡ characters bs
-characters-no bs i h t e = sym (ap characters (drop-more bs i 0 h) ∙ rw t refl) ∙ e
+pub all-no : (p : ℕ → Bool) (bs : List ℕ) (i : ℕ) → i < length bs → p (getD bs i 0) ≡ false → allBy p (drop i bs) ≡ allBy p bs → false ≡ allBy p bs
+all-no p bs i h t e = sym (ap (allBy p) (drop-more bs i 0 h) ∙ rw t refl) ∙ e
 
-pub characters-more : (bs : List ℕ) (i : ℕ) → i < length bs → character (getD bs i 0) ≡ true
-    → characters (drop i bs) ≡ characters bs → characters (drop (i + 1) bs) ≡ characters bs
-characters-more bs i h t e = sym (ap characters (drop-more bs i 0 h) ∙ rw t refl) ∙ e
+pub all-more : (p : ℕ → Bool) (bs : List ℕ) (i : ℕ) → i < length bs → p (getD bs i 0) ≡ true
+    → allBy p (drop i bs) ≡ allBy p bs → allBy p (drop (i + 1) bs) ≡ allBy p bs
+all-more p bs i h t e = sym (ap (allBy p) (drop-more bs i 0 h) ∙ rw t refl) ∙ e
 
-pub characters-all : (bs : List ℕ) (i : ℕ) → length bs ≤ i → characters (drop i bs) ≡ characters bs → true ≡ characters bs
-characters-all bs i h e = sym (ap characters (drop-all i bs h)) ∙ e
+pub all-all : (p : ℕ → Bool) (bs : List ℕ) (i : ℕ) → length bs ≤ i → allBy p (drop i bs) ≡ allBy p bs → true ≡ allBy p bs
+all-all p bs i h e = sym (ap (allBy p) (drop-all i bs h)) ∙ e

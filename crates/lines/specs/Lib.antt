@@ -4,3 +4,5 @@ pub mod Kinds
 pub mod Nesting
 pub mod Laws
 pub mod Division
+pub mod Names
+pub mod Statements

@@ -1,10 +1,13 @@
 // Bytes of a line: characters, words and blanks, and the operation field.
-pub mod fields;
 pub mod field;
+pub mod fields;
 pub mod kinds;
+pub mod names;
 pub mod nest;
 pub mod nesting;
 pub mod operations;
+pub mod statement;
+pub mod statements;
 
 pub use field::Fields;
 pub use field::Part;
@@ -12,13 +15,16 @@ pub use fields::Division;
 pub use fields::divide;
 pub use fields::fields_of;
 pub use kinds::Kind;
+pub use names::NAME_BYTES;
+pub use names::name_of;
 pub use nesting::COMMA;
 pub use nesting::is_closed;
 pub use nesting::outside_end;
 pub use operations::kind_of;
-
+pub use statement::Statement;
+pub use statements::statement_of;
 ghost use mathlib.Core.Path.{_≡_};
-ghost use Rattle.lines.specs.Characters.{character, characters};
+ghost use Rattle.lines.specs.Characters.{character, characters, overwritten};
 ghost use Rattle.lines.specs.Fields.{comment, firstBlank, firstWord, operationOf, pastBlanks, pastWord, word};
 ghost use lib.ListN.{length};
 ghost use Prim.Native.Nat.{_≤_};
@@ -117,4 +123,14 @@ pub fn operation(line: &[u8]) -> &[u8]
         return &line[0..0];
     }
     first_word(past_word(line))
+}
+
+// Writes a text over the first bytes; one that is too long is not written.
+pub fn overwrite(bytes: &mut [u8], text: &[u8])
+    ensures { λ _. ⌜ now (bytes .exit) ≡ overwritten (now (bytes .entry)) (now (text .entry)) ⌝ }
+{
+    let len = text.len();
+    if len <= bytes.len() {
+        bytes[0..len].copy_from_slice(text);
+    }
 }

@@ -14,7 +14,12 @@ fn is_word(operation: &[u8], word: &[u8]) -> bool
 fn is_declaration(operation: &[u8]) -> bool
     ensures { λ r. ⌜ r ≡ declares (now (operation .entry)) ⌝ }
 {
-    is_word(operation, b"LCLA") | is_word(operation, b"LCLB") | is_word(operation, b"LCLC") | is_word(operation, b"GBLA") | is_word(operation, b"GBLB") | is_word(operation, b"GBLC")
+    is_word(operation, b"LCLA")
+        | is_word(operation, b"LCLB")
+        | is_word(operation, b"LCLC")
+        | is_word(operation, b"GBLA")
+        | is_word(operation, b"GBLB")
+        | is_word(operation, b"GBLC")
 }
 
 // SETA, SETB, SETC

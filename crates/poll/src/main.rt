@@ -13,7 +13,8 @@ const USAGE: &str = "use: poll LAYERS REQUESTS, with a text on standard input";
 
 const LAYERS: &str = "LAYERS: -, E, EE, EEE or EEEE, the bottom layer first";
 
-const REQUESTS: &str = "REQUESTS: grant or grant/bufferlength, parted by commas; a grant is a number up to 4294967295";
+const REQUESTS: &str =
+    "REQUESTS: grant or grant/bufferlength, parted by commas; a grant is a number up to 4294967295";
 
 // Tells what the words should be.
 fn explain(rt: &LibcRuntime) -> Result<(), AnyError> {

@@ -2,9 +2,7 @@
 ghost use mathlib.Core.Path.{_≡_};
 ghost use mathlib.Core.Bool.{cond};
 ghost use lib.Dec.{ltb};
-ghost use lib.ListN.{drop, length};
-ghost use mathlib.Core.List.{_++_};
-ghost use Prim.Native.Nat.{_≤_};
+ghost use lib.ListN.{length};
 ghost use Rattle.std.specs.Results.{Cases};
 ghost use Rattle.std.specs.declared.result.Result.the-variants.{Ok, Err};
 ghost use Rattle.std.specs.declared.option.Option.the-variants.{Some, None};
@@ -17,6 +15,7 @@ use crate::line::Line;
 use crate::line::WIDTH;
 use lines::BLANK;
 use lines::all_characters;
+use lines::overwrite;
 
 impl Line {
     // A line of these bytes, or what is wrong with them.
@@ -30,7 +29,7 @@ impl Line {
             return Err(Cause::BadCharacter);
         }
         let mut bytes = [BLANK; WIDTH];
-        write_front(&mut bytes, text);
+        overwrite(&mut bytes, text);
         Ok(Line {
             bytes,
             len: text.len(),
@@ -55,13 +54,4 @@ impl Line {
         buffer[0..WIDTH].copy_from_slice(&self.bytes);
         Ok(self.len)
     }
-}
-
-// Writes the text over the first bytes.
-fn write_front(bytes: &mut [u8], text: &[u8])
-    requires { ⌜ length (now text) ≤ length (now bytes) ⌝ }
-    ensures { λ _. ⌜ now (bytes .exit) ≡ now (text .entry) ++ drop (length (now (text .entry))) (now (bytes .entry)) ⌝ }
-{
-    let len = text.len();
-    bytes[0..len].copy_from_slice(text);
 }

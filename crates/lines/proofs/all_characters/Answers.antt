@@ -1,14 +1,15 @@
 use mathlib.Core.Path.{sym}
-use Rattle.lines.proofs.Scans.{characters-no, characters-more, characters-all}
+use Rattle.lines.specs.Characters.{character}
+use Rattle.lines.proofs.Scans.{all-no, all-more, all-all}
 use Rattle.lines.proofs.all_characters.Needs as need
 
 pub returns-then-not-is-character : need.returns-then-not-is-character
 returns-then-not-is-character c =
-    characters-no _ _ (c .loop-byte-test .taken) (sym (c .if-not-is-character .ensures tt)) (c .loop-byte .inv)
+    all-no character _ _ (c .loop-byte-test .taken) (sym (c .if-not-is-character .ensures tt)) (c .loop-byte .inv)
 
 pub loop-byte-again : need.loop-byte-again
 loop-byte-again c =
-    characters-more _ _ (c .loop-byte-test .taken) (sym (c .if-not-is-character .ensures tt)) (c .loop-byte .inv)
+    all-more character _ _ (c .loop-byte-test .taken) (sym (c .if-not-is-character .ensures tt)) (c .loop-byte .inv)
 
 pub returns : need.returns
-returns c = characters-all _ _ (c .loop-byte-test .left) (c .loop-byte .inv)
+returns c = all-all character _ _ (c .loop-byte-test .left) (c .loop-byte .inv)

@@ -31,9 +31,15 @@ returns c =
     let operand : take (n - 0) b ≡ operandOf line = ap (λ k. take k b) (sub-zero n) ∙ ap₂ take en eb in
     let after : take (length b - n) (drop n b) ≡ drop (operandEnd (fromOperand line)) (fromOperand line) = take-rest b n ∙ ap₂ drop en eb in
     let er : c .past-blanks-remark .result .now ≡ remarkOf line = c .past-blanks-remark .ensures ∙ ap pastBlanks after in
-    record { joined = joined line; value = (sym (c .if-is-comment .ensures tt), record {
-      name = at-same line line line (c .first-word .result .now) (word line) (c .part .result) refl (c .first-word .ensures) (c .part .ensures);
-      operation = at-same line a (pastWord line) (c .first-word-2 .result .now) (word (pastWord line)) (c .part-2 .result) ea (c .first-word-2 .ensures ∙ ap word ea) (c .part-2 .ensures);
-      operand = at-same line b (fromOperand line) (take (n - 0) b) (operandOf line) (c .part-3 .result) eb operand (c .part-3 .ensures);
-      remark = at-same line (c .past-blanks-remark .result .now) (remarkOf line) (c .past-blanks-remark .result .now) (remarkOf line) (c .part-4 .result) er er (c .part-4 .ensures);
-    }) }
+    record {
+      joined = joined line;
+      value = (
+        sym (c .if-is-comment .ensures tt),
+        record {
+          name = at-same line line line (c .first-word .result .now) (word line) (c .part .result) refl (c .first-word .ensures) (c .part .ensures);
+          operation = at-same line a (pastWord line) (c .first-word-2 .result .now) (word (pastWord line)) (c .part-2 .result) ea (c .first-word-2 .ensures ∙ ap word ea) (c .part-2 .ensures);
+          operand = at-same line b (fromOperand line) (take (n - 0) b) (operandOf line) (c .part-3 .result) eb operand (c .part-3 .ensures);
+          remark = at-same line (c .past-blanks-remark .result .now) (remarkOf line) (c .past-blanks-remark .result .now) (remarkOf line) (c .part-4 .result) er er (c .part-4 .ensures);
+        },
+      );
+    }

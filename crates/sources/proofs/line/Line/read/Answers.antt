@@ -13,8 +13,8 @@ pub ghost-result : need.ghost-result
 ghost-result c =
     let t = c .args .text .now in
     let fits : length t ≤ 80 = omega arith in
-    let whole : c .write-front .last .bytes ≡ filled t = c .write-front .ensures ∙ filled-is t fits in
-    let front : take (length t) (c .write-front .last .bytes) ≡ t = ap (take (length t)) whole ∙ take-filled t fits in
+    let whole : c .overwrite .last .bytes ≡ filled t = c .overwrite .ensures ∙ filled-is t fits in
+    let front : take (length t) (c .overwrite .last .bytes) ≡ t = ap (take (length t)) whole ∙ take-filled t fits in
     (fits, (ap characters front ∙ sym (c .if-not-all-characters .ensures tt), (whole ∙ ap filled (sym front), tt)))
 
 pub returns : need.returns
@@ -22,6 +22,6 @@ returns c =
     let t = c .args .text .now in
     let fits : length t ≤ 80 = omega arith in
     let clean = c .if-not-all-characters .ensures tt in
-    let whole : c .write-front .last .bytes ≡ filled t = c .write-front .ensures ∙ filled-is t fits in
-    let front : take (length t) (c .write-front .last .bytes) ≡ t = ap (take (length t)) whole ∙ take-filled t fits in
+    let whole : c .overwrite .last .bytes ≡ filled t = c .overwrite .ensures ∙ filled-is t fits in
+    let front : take (length t) (c .overwrite .last .bytes) ≡ t = ap (take (length t)) whole ∙ take-filled t fits in
     (search needs, front)
