@@ -1,0 +1,4 @@
+pub mod Classes
+pub mod Flaws
+pub mod Texts
+pub mod Numbers

@@ -1,0 +1,18 @@
+// What the parts of a statement mean: symbols and their values, text as a number, number as text, substitution.
+pub mod classes;
+pub mod flaws;
+pub mod numbers;
+pub mod symbol;
+pub mod symbols;
+pub mod text;
+pub mod texts;
+
+pub use classes::Class;
+pub use classes::class_of;
+pub use flaws::Flaw;
+pub use numbers::number_of;
+pub use numbers::written_number;
+pub use symbol::CallNumber;
+pub use symbol::Symbol;
+pub use symbols::Symbols;
+pub use text::Text;
