@@ -2,6 +2,9 @@
 pub mod classes;
 pub mod flaws;
 pub mod numbers;
+pub mod piece;
+mod pieces;
+pub mod substitution;
 pub mod symbol;
 pub mod symbols;
 pub mod text;
@@ -12,6 +15,8 @@ pub use classes::class_of;
 pub use flaws::Flaw;
 pub use numbers::number_of;
 pub use numbers::written_number;
+pub use piece::Filled;
+pub use substitution::substitute;
 pub use symbol::CallNumber;
 pub use symbol::Symbol;
 pub use symbols::Symbols;

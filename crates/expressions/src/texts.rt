@@ -60,7 +60,7 @@ impl Text {
 }
 
 // Writes the text over the first bytes.
-fn write_front(bytes: &mut [u8], text: &[u8])
+pub(crate) fn write_front(bytes: &mut [u8], text: &[u8])
     requires { ⌜ length (now text) ≤ length (now bytes) ⌝ }
     ensures { λ _. ⌜ now (bytes .exit) ≡ now (text .entry) ++ drop (length (now (text .entry))) (now (bytes .entry)) ⌝ }
 {
