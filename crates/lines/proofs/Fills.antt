@@ -1,5 +1,5 @@
 -- A text written over bytes that are all alike, over any width and any byte.
-use Prim.Native.Nat.{ℕ, _+_, _-_, _≤_, min}
+use Prim.Native.Nat.{ℕ, _+_, _-_, _≤_, _<_, min}
 use mathlib.Core.Path.{_≡_, refl, sym, ap, _∙_}
 use mathlib.Core.Bool.{true}
 use mathlib.Core.List.{List, _++_}
@@ -7,8 +7,9 @@ use native.Mathlib.Omega.{arith}
 use lib.Dec.{leb}
 use lib.ListN.{length, take, drop, replicate}
 use lib.Seq.{take-append-add}
-use Rattle.std.proofs.shelf.Lists.{take-at, drop-replicate, take-replicate, length-take, length-append, length-replicate}
-use Rattle.std.proofs.shelf.Tests.{le-leb}
+use Rattle.std.proofs.shelf.Lists.{take-at, drop-replicate, take-replicate, length-take, length-append, length-replicate, take-append-le, take-take, take-all}
+use mathlib.Core.Logic.{_⊎_, inl, inr}
+use Rattle.std.proofs.shelf.Tests.{le-leb, cases-lt}
 use Rattle.lines.specs.Characters.{overwritten}
 
 filling : (w b : ℕ) (t : List ℕ) → length t ≤ w → t ++ drop (length t) (replicate w b) ≡ take w (t ++ replicate w b)
@@ -32,3 +33,16 @@ length-fills w b t =
 
 pub take-fills : (w b : ℕ) (t : List ℕ) → length t ≤ w → take (length t) (take w (t ++ replicate w b)) ≡ t
 take-fills w b t h = ap (take (length t)) (sym (filling w b t h)) ∙ take-at t (drop (length t) (replicate w b)) _ refl
+
+-- the front of a text is filled as the text is
+pub fills-front : (w b : ℕ) (t : List ℕ) → overwritten (replicate w b) (take w t) ≡ take w (t ++ replicate w b)
+fills-front w b t =
+    let l : length (take w t) ≤ w = omega (arith, length-take w t) in
+    fills w b (take w t) l ∙ go (cases-lt w (length t))
+  where
+    go : (w < length t) ⊎ (length t ≤ w) → take w (take w t ++ replicate w b) ≡ take w (t ++ replicate w b)
+    go (inl h) =
+        let a : w ≤ length t = omega arith in
+        let c : w ≤ length (take w t) = omega (arith, length-take w t) in
+        take-append-le w (take w t) (replicate w b) c ∙ take-take w w t (omega arith) ∙ sym (take-append-le w t (replicate w b) a)
+    go (inr h) = ap (λ x. take w (x ++ replicate w b)) (take-all w t h)

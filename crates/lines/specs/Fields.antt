@@ -14,9 +14,13 @@ abbrev pub firstBy : (ℕ → Bool) → List ℕ → ℕ
 firstBy p [] = 0
 firstBy p (b ∷ bs) = cond (p b) 0 (suc (firstBy p bs))
 
+-- how many bytes stand before the first that is this one
+abbrev pub firstAt : ℕ → List ℕ → ℕ
+firstAt w bs = firstBy (λ b. eqb b w) bs
+
 -- how many bytes stand before the first blank
 abbrev pub firstBlank : List ℕ → ℕ
-firstBlank bs = firstBy (λ b. eqb b 32) bs
+firstBlank bs = firstAt 32 bs
 
 -- how many blanks stand before the first byte that is none
 abbrev pub firstWord : List ℕ → ℕ

@@ -17,6 +17,7 @@ pub use fields::fields_of;
 pub use kinds::Kind;
 pub use names::NAME_BYTES;
 pub use names::name_of;
+pub use names::padded_name;
 pub use nesting::COMMA;
 pub use nesting::is_closed;
 pub use nesting::outside_end;
@@ -25,9 +26,9 @@ pub use statement::Statement;
 pub use statements::statement_of;
 ghost use mathlib.Core.Path.{_≡_};
 ghost use Rattle.lines.specs.Characters.{character, characters, overwritten};
-ghost use Rattle.lines.specs.Fields.{comment, firstBlank, firstWord, operationOf, pastBlanks, pastWord, word};
-ghost use lib.ListN.{length};
-ghost use Prim.Native.Nat.{_≤_};
+ghost use Rattle.lines.specs.Fields.{comment, firstAt, firstWord, operationOf, pastBlanks, pastWord, word};
+ghost use lib.ListN.{drop, length, take};
+ghost use Prim.Native.Nat.{_+_, _≤_};
 
 pub const BLANK: u8 = 32;
 
@@ -58,17 +59,29 @@ pub fn all_characters(bytes: &[u8]) -> bool
     true
 }
 
-// How many bytes stand before the first blank.
-fn word_length(bytes: &[u8]) -> usize
-    ensures value { λ r. ⌜ r ≡ firstBlank (now (bytes .entry)) ⌝ }
+// How many bytes stand before the first that is this one.
+pub fn first_at(bytes: &[u8], wanted: u8) -> usize
+    ensures value { λ r. ⌜ r ≡ firstAt wanted (now (bytes .entry)) ⌝ }
     ensures bound { λ r. ⌜ r ≤ length (now (bytes .entry)) ⌝ }
 {
     for (i, byte) in bytes.iter().enumerate() {
-        if *byte == BLANK {
+        if *byte == wanted {
             return i;
         }
     }
     bytes.len()
+}
+
+// What follows the byte at `end`; nothing where there is no such byte.
+pub fn after_byte(bytes: &[u8], end: usize) -> &[u8]
+    ensures { λ r. ⌜ now r ≡ drop (end + 1) (now (bytes .entry)) ⌝ }
+{
+    let len = bytes.len();
+    if end < len {
+        &bytes[end + 1..]
+    } else {
+        &bytes[len..]
+    }
 }
 
 // How many blanks stand before the first byte that is none.
@@ -88,7 +101,7 @@ fn blanks_length(bytes: &[u8]) -> usize
 pub(crate) fn first_word(bytes: &[u8]) -> &[u8]
     ensures { λ r. ⌜ now r ≡ word (now (bytes .entry)) ⌝ }
 {
-    let length = word_length(bytes);
+    let length = first_at(bytes, BLANK);
     &bytes[0..length]
 }
 
@@ -96,7 +109,7 @@ pub(crate) fn first_word(bytes: &[u8]) -> &[u8]
 pub(crate) fn past_word(bytes: &[u8]) -> &[u8]
     ensures { λ r. ⌜ now r ≡ pastWord (now (bytes .entry)) ⌝ }
 {
-    let length = word_length(bytes);
+    let length = first_at(bytes, BLANK);
     past_blanks(&bytes[length..])
 }
 
@@ -132,5 +145,16 @@ pub fn overwrite(bytes: &mut [u8], text: &[u8])
     let len = text.len();
     if len <= bytes.len() {
         bytes[0..len].copy_from_slice(text);
+    }
+}
+
+// The first bytes, or all where there are fewer.
+pub fn front(bytes: &[u8], length: usize) -> &[u8]
+    ensures { λ r. ⌜ now r ≡ take length (now (bytes .entry)) ⌝ }
+{
+    if length < bytes.len() {
+        &bytes[0..length]
+    } else {
+        bytes
     }
 }

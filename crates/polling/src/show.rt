@@ -1,11 +1,11 @@
 // A reply as it is printed.
 ghost use mathlib.Core.Path.{_≡_};
-ghost use lib.ListN.{take};
 ghost use Rattle.std.specs.Of.String.{string-bytes};
 ghost use Rattle.std.specs.Of.Vec.{vec-items};
 ghost use Rattle.std.specs.Vec.{made};
 ghost use Rattle.piles.specs.Requests.{bytesOf};
 ghost use Rattle.polling.specs.Show.{answerShown, endShown, faultTold, headShown, lineShown, replyShown};
+use lines::front;
 use listing::bytes_of;
 use listing::fault_parts;
 use piles::Request;
@@ -53,17 +53,6 @@ fn line_head(heap: Global, spent: u32, length: usize) -> Result<String, AllocErr
     ensures { λ r. ⌜ made r (λ s. string-bytes s ≡ headShown spent length) ⌝ }
 {
     format!(heap, "line {spent} {length} ")
-}
-
-// The first bytes of a buffer, or all where there are fewer.
-fn front(buffer: &[u8], length: usize) -> &[u8]
-    ensures { λ r. ⌜ now r ≡ take length (now (buffer .entry)) ⌝ }
-{
-    if length < buffer.len() {
-        &buffer[0..length]
-    } else {
-        buffer
-    }
 }
 
 // An ending.

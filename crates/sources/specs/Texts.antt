@@ -7,7 +7,7 @@ use lib.ListN.{length}
 use Rattle.std.specs.declared.option.Option.{Option}
 use Rattle.std.specs.declared.option.Option.the-variants.{Some, None}
 use Rattle.lines.specs.Characters.{characters}
-use Rattle.lines.specs.Fields.{firstBy}
+use Rattle.lines.specs.Fields.{firstAt}
 use mathlib.Core.Path.{refl}
 use Rattle.sources.specs.declared.faults.Cause.{Cause}
 use Rattle.sources.specs.declared.faults.Cause.the-variants.{LineTooLong, BadCharacter}
@@ -28,7 +28,7 @@ linesOf (b ∷ bs) = cond (eqb b 10) ([] ∷ linesOf bs) (onto b (linesOf bs))
 
 -- how many bytes stand before the first byte 10
 abbrev pub firstEnd : List ℕ → ℕ
-firstEnd bs = firstBy (λ b. eqb b 10) bs
+firstEnd bs = firstAt 10 bs
 
 -- what is wrong with a line, if anything: over 80 bytes, then a byte that is no character
 abbrev pub flaw : List ℕ → Option Cause

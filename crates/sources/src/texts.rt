@@ -1,13 +1,12 @@
 // How the text source reads its bytes.
 ghost use mathlib.Core.Path.{_≡_};
 ghost use denote.Ref.{now};
-ghost use Prim.Native.Nat.{ℕ, _+_, _≤_};
-ghost use lib.ListN.{drop, length};
+ghost use Prim.Native.Nat.{ℕ, _≤_};
 ghost use Rattle.std.specs.declared.option.Option.the-variants.{None};
 ghost use Rattle.sources.specs.Faults.{found};
 ghost use Rattle.sources.specs.Hearings.{Hears, HearsOf};
 ghost use Rattle.sources.specs.Meaning.{Remains, pay, spend};
-ghost use Rattle.sources.specs.Texts.{firstEnd, resting, textRemains, text-paced};
+ghost use Rattle.sources.specs.Texts.{resting, textRemains, text-paced};
 use crate::answers::Answer;
 use crate::answers::Refusal;
 use crate::faults::Cause;
@@ -24,6 +23,8 @@ use crate::requests::refusal;
 use crate::source::Source;
 use crate::text::TextSource;
 use lines::LINE_END;
+use lines::after_byte;
+use lines::first_at;
 
 impl<'a> TextSource<'a> {
     // The text from its first line on.
@@ -69,11 +70,11 @@ impl<'a> TextSource<'a> {
             self.told = Some(Ending::End);
             return Heard::Over(Ending::End);
         }
-        let end = line_end(self.rest);
+        let end = first_at(self.rest, LINE_END);
         let taken = count_line(self.taken);
         match Line::read(&self.rest[0..end]) {
             Ok(line) => {
-                self.rest = past(self.rest, end);
+                self.rest = after_byte(self.rest, end);
                 self.taken = taken;
                 Heard::Got(line)
             }
@@ -96,31 +97,6 @@ fn found_in(cause: Cause, line: u32) -> Fault
         line,
         definition: DefinitionNumber(0),
         statement: StatementNumber(0),
-    }
-}
-
-// How many bytes stand before the end of the first line.
-fn line_end(text: &[u8]) -> usize
-    ensures value { λ r. ⌜ r ≡ firstEnd (now (text .entry)) ⌝ }
-    ensures bound { λ r. ⌜ r ≤ length (now (text .entry)) ⌝ }
-{
-    for (i, byte) in text.iter().enumerate() {
-        if *byte == LINE_END {
-            return i;
-        }
-    }
-    text.len()
-}
-
-// What follows the byte at `end`.
-fn past(text: &[u8], end: usize) -> &[u8]
-    ensures { λ r. ⌜ now r ≡ drop (end + 1) (now (text .entry)) ⌝ }
-{
-    let len = text.len();
-    if end < len {
-        &text[end + 1..]
-    } else {
-        &text[len..]
     }
 }
 

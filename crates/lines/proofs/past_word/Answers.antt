@@ -6,4 +6,4 @@ use Rattle.lines.proofs.past_word.Needs as need
 
 pub returns : need.returns
 returns c =
-    c .past-blanks .ensures ∙ ap pastBlanks (take-rest (c .args .bytes .now) (c .word-length-length .result) ∙ ap (λ n. drop n (c .args .bytes .now)) (c .word-length-length .ensures .value))
+    c .past-blanks .ensures ∙ ap pastBlanks (take-rest (c .args .bytes .now) (c .first-at-length .result) ∙ ap (λ n. drop n (c .args .bytes .now)) (c .first-at-length .ensures .value))
