@@ -6,3 +6,4 @@ pub mod seen;
 pub mod table;
 pub mod words;
 
+pub use prototypes::is_prototype;

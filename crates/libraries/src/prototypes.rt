@@ -1,16 +1,13 @@
 // Lawful prototypes.
 ghost use mathlib.Core.Path.{_≡_};
-ghost use mathlib.Core.Bool.{cond};
-ghost use mathlib.Core.List.{_++_, _∷_, []};
-ghost use Rattle.libraries.specs.Prototypes.{allFit, fits, isDefault, isMacroName, isModel, isParameter, keyed, lawfulPrototype, nameFits, nameSeen, symbolOf};
-ghost use Rattle.libraries.specs.Tables.{rowsOf};
-ghost use Rattle.lines.specs.Division.{partsOf};
-ghost use Rattle.lines.specs.Names.{padded};
-use crate::table::Names;
+ghost use Rattle.libraries.specs.Prototypes.{isDefault, isMacroName, isModel, isParameter, lawfulPrototype};
+use crate::parameters::parameters_fit;
+use crate::parameters::seen_in_name;
 use crate::words::is_system;
 use crate::words::is_variable;
 use crate::words::is_word;
 use lines::Kind;
+use lines::fields_of;
 use lines::is_closed;
 use lines::kind_of;
 
@@ -53,4 +50,17 @@ fn is_macro_name(bytes: &[u8]) -> bool
     ensures { λ r. ⌜ r ≡ isMacroName (now (bytes .entry)) ⌝ }
 {
     is_word(bytes) & ((bytes.len() <= MACRO_NAME_BYTES) & is_model(kind_of(bytes)))
+}
+
+// Is the line a lawful prototype?
+pub fn is_prototype(line: &[u8]) -> bool
+    ensures { λ r. ⌜ r ≡ lawfulPrototype (now (line .entry)) ⌝ }
+{
+    let Some(fields) = fields_of(line) else {
+        return false;
+    };
+    let Some(seen) = seen_in_name(fields.name.bytes) else {
+        return false;
+    };
+    is_macro_name(fields.operation.bytes) & parameters_fit(fields.operand.bytes, seen)
 }
