@@ -1,3 +1,5 @@
 pub mod Words
 pub mod Tables
 pub mod Prototypes
+pub mod Checks
+pub mod Readers

@@ -23,6 +23,7 @@ pub use nesting::is_closed;
 pub use nesting::outside_end;
 pub use operations::kind_of;
 pub use statement::Statement;
+pub use statements::is_remark;
 pub use statements::statement_of;
 ghost use mathlib.Core.Path.{_≡_};
 ghost use Rattle.lines.specs.Characters.{character, characters, overwritten};

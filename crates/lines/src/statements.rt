@@ -11,7 +11,7 @@ use crate::statement::Statement;
 const COLON: u8 = 58;
 
 // Does it begin with :*?
-fn is_remark(line: &[u8]) -> bool
+pub fn is_remark(line: &[u8]) -> bool
     ensures { λ r. ⌜ r ≡ remark (now (line .entry)) ⌝ }
 {
     match line {
