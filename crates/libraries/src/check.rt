@@ -3,8 +3,10 @@ ghost use mathlib.Core.Path.{_≡_};
 ghost use mathlib.Core.List.{[]};
 ghost use mathlib.Core.Bool.{false};
 ghost use Rattle.std.specs.Results.{Cases};
+ghost use Rattle.sources.specs.Texts.{linesOf};
+ghost use Rattle.std.specs.declared.option.Option.the-variants.{None, Some};
 ghost use Rattle.std.specs.declared.result.Result.the-variants.{Ok, Err};
-ghost use Rattle.libraries.specs.Checks.{bodyKind, checkOf, closing, ends, flaw, isOpening, libraryNumber, lineFits, opens, readBody, readIn, readOpening, readPrototype, reading, stops};
+ghost use Rattle.libraries.specs.Checks.{badFrom, bodyKind, checkOf, closing, ended, ends, finish, flaw, isOpening, libraryNumber, lineFits, opens, readBody, readFrom, readIn, readOpening, readPrototype, reading, stops};
 ghost use Rattle.libraries.specs.Readers.{readingOf};
 use crate::flaws::LibraryCause;
 use crate::flaws::LibraryFault;
@@ -13,12 +15,17 @@ use crate::prototypes::is_prototype;
 use crate::reader::Reader;
 use crate::table::Names;
 use lines::Kind;
+use lines::LINE_END;
+use lines::after_byte;
 use lines::all_characters;
 use lines::fields_of;
+use lines::first_at;
+use lines::front;
 use lines::is_remark;
 use lines::kind_of;
 use lines::operation;
 use lines::padded_name;
+use sources::faults::count_line;
 
 // The longest line of a library.
 pub const STATEMENT_BYTES: usize = 71;
@@ -87,7 +94,8 @@ fn is_opening(line: &[u8]) -> bool
     let Some(fields) = fields_of(line) else {
         return false;
     };
-    is_macro(kind_of(fields.operation.bytes)) & ((fields.name.bytes.len() == 0) & (fields.operand.bytes.len() == 0))
+    is_macro(kind_of(fields.operation.bytes))
+        & ((fields.name.bytes.len() == 0) & (fields.operand.bytes.len() == 0))
 }
 
 // The kind of a statement of a body.
@@ -194,5 +202,68 @@ impl Reader {
             Phase::Opened => self.read_prototype(number, line),
             Phase::Inside => self.read_body(number, line),
         }
+    }
+}
+
+impl Reader {
+    // The text ends after this line.
+    fn finish(&self, last: u32) -> Option<LibraryFault>
+        ensures { λ r. ⌜ r ≡ finish (now (self .entry) .phase) last ⌝ }
+    {
+        match self.phase {
+            Phase::Between => None,
+            Phase::Opened => Some(fault(LibraryCause::BadPrototype, last)),
+            Phase::Inside => Some(fault(LibraryCause::NoMend, last)),
+        }
+    }
+}
+
+// The number of the first line that does not fit or is not ended.
+fn bad_line(text: &[u8]) -> Option<u32>
+    ensures { λ r. ⌜ r ≡ badFrom 0 (ended (now (text .entry))) (linesOf (now (text .entry))) ⌝ }
+{
+    let mut rest = text;
+    let mut taken = 0;
+    while rest.len() > 0 {
+        let end = first_at(rest, LINE_END);
+        let whole = end < rest.len();
+        taken = count_line(taken);
+        let fine = line_fits(front(rest, end)) & whole;
+        if !fine {
+            return Some(taken);
+        }
+        rest = after_byte(rest, end);
+    }
+    None
+}
+
+// What is wrong with the definitions of a text whose lines fit.
+fn bad_definition(text: &[u8]) -> Option<LibraryFault>
+    ensures { λ r. ⌜ r ≡ readFrom 0 (linesOf (now (text .entry))) (reading Phase.Between [] false 0 0) ⌝ }
+{
+    let mut reader = Reader::start();
+    let mut rest = text;
+    let mut taken = 0;
+    while rest.len() > 0 {
+        let end = first_at(rest, LINE_END);
+        taken = count_line(taken);
+        if let Err(found) = reader.read(taken, front(rest, end)) {
+            return Some(found);
+        }
+        rest = after_byte(rest, end);
+    }
+    reader.finish(taken)
+}
+
+// Is the text a lawful library? If not, what is wrong first, and in which line.
+pub fn check_text(text: &[u8]) -> Result<(), LibraryFault>
+    ensures { λ r. ⌜ Cases r (λ _. checkOf (now (text .entry)) ≡ None) (λ f. checkOf (now (text .entry)) ≡ Some f) ⌝ }
+{
+    if let Some(line) = bad_line(text) {
+        return Err(fault(LibraryCause::BadLine, line));
+    }
+    match bad_definition(text) {
+        Some(found) => Err(found),
+        None => Ok(()),
     }
 }

@@ -12,9 +12,9 @@ use crate::prototypes::is_default;
 use crate::prototypes::is_parameter;
 use crate::seen::Seen;
 use crate::table::Names;
+use lines::COMMA;
 use lines::after_byte;
 use lines::first_at;
-use lines::COMMA;
 use lines::front;
 use lines::outside_end;
 use lines::padded_name;
@@ -73,8 +73,5 @@ pub(crate) fn seen_in_name(name: &[u8]) -> Option<Seen>
         }
         let _ = names.add(padded_name(name));
     }
-    Some(Seen {
-        names,
-        late: false,
-    })
+    Some(Seen { names, late: false })
 }

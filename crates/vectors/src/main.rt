@@ -1,7 +1,9 @@
 // VECTORS: runs cases from standard input and prints what each gives.
 //
-// A case is a line `= NAME`, a line `LAYERS REQUESTS` as POLL takes them, and the text: a line `|BYTES` for each of its
-// lines, or `+BYTES` for one without its byte 10. In the bytes \HH is the byte of that hexadecimal number.
+// A case is a line `= NAME`, a line `LAYERS REQUESTS` as POLL takes them, or `check` for a library text, and the text: a
+// line `|BYTES` for each of its lines, or `+BYTES` for one without its byte 10. In the bytes \HH is the byte of that
+// hexadecimal number. A line `*COUNT|BYTES` stands for as many such lines.
+use libraries::check_text;
 use polling::poll_pile;
 use polling::reply_line;
 use polling::requests_for;
@@ -23,11 +25,11 @@ fn hex(byte: u8) -> u8 {
     }
 }
 
-// Appends bytes as they are written in a case, after the first, which is the line's mark.
-fn append(text: &mut Vec<u8>, written: &[u8]) -> Result<(), AllocError> {
+// Appends bytes as they are written in a case, from an index on.
+fn append(text: &mut Vec<u8>, written: &[u8], from: usize) -> Result<(), AllocError> {
     let mut left = 0u8;
     let mut high = 0u8;
-    for byte in written.iter().skip(1) {
+    for byte in written.iter().skip(from) {
         if left == 2 {
             high = hex(*byte);
             left = 1;
@@ -60,8 +62,24 @@ fn finish(rt: &LibcRuntime, case: &mut Case) -> Result<(), AnyError> {
     Ok(())
 }
 
+// Checks a library text and prints what is wrong first.
+fn run_check(rt: &LibcRuntime, text: &[u8]) -> Result<(), AnyError> {
+    match check_text(text) {
+        Ok(()) => rt.println("lawful")?,
+        Err(fault) => {
+            let number = fault.cause.number();
+            let line = fault.line;
+            println!(rt, "fault {number} {line}")?;
+        }
+    }
+    Ok(())
+}
+
 // Makes the requests of a case and prints the replies.
 fn run_case(rt: &LibcRuntime, asked: &str, text: &[u8]) -> Result<(), AnyError> {
+    if asked == "check" {
+        return run_check(rt, text);
+    }
     let Some((layers, list)) = asked.split_once(' ') else {
         return Err("a case has no line of layers and requests".into());
     };
@@ -77,14 +95,27 @@ fn run_case(rt: &LibcRuntime, asked: &str, text: &[u8]) -> Result<(), AnyError> 
     Ok(())
 }
 
+// Adds a line of the text so many times, as `*3|BYTES`.
+fn add_lines(text: &mut Vec<u8>, written: &str) -> Result<(), AnyError> {
+    let Some((count, line)) = written.split_once('|') else {
+        return Err("a repeated line has no bytes".into());
+    };
+    for _ in 0..count.parse::<u16>()? {
+        append(text, line.as_bytes(), 0)?;
+        text.push(lines::LINE_END)?;
+    }
+    Ok(())
+}
+
 // A line of a case after its name: of the text, or of what is asked.
 fn add_line(heap: Global, case: &mut Case, line: &str) -> Result<(), AnyError> {
     match line.as_bytes() {
         [b'|', ..] => {
-            append(&mut case.text, line.as_bytes())?;
+            append(&mut case.text, line.as_bytes(), 1)?;
             case.text.push(lines::LINE_END)?;
         }
-        [b'+', ..] => append(&mut case.text, line.as_bytes())?,
+        [b'+', ..] => append(&mut case.text, line.as_bytes(), 1)?,
+        [b'*', ..] => add_lines(&mut case.text, line.strip_prefix('*').unwrap_or(line))?,
         _ => case.asked = String::from_str(heap, line)?,
     }
     Ok(())
