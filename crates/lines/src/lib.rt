@@ -102,8 +102,7 @@ fn blanks_length(bytes: &[u8]) -> usize
 pub(crate) fn first_word(bytes: &[u8]) -> &[u8]
     ensures { λ r. ⌜ now r ≡ word (now (bytes .entry)) ⌝ }
 {
-    let length = first_at(bytes, BLANK);
-    &bytes[0..length]
+    front(bytes, first_at(bytes, BLANK))
 }
 
 // What follows the first word and the blanks after it.
