@@ -125,6 +125,7 @@ percent-found bs p = go (begins 37 bs) refl
         let few : nameLength bs ≤ 7 = grind (arith, tells) in
         some-is _ p (37 ∷ bs) f (symbol-found bs (t .0) few)
     named-go false e f = absurd (let z : _≡_ {A = ℕ} 0 1 = cc in omega arith)
+
     go : (z : Bool) → begins 37 bs ≡ z → cond z (Some percent) (cond (letterFirst bs && leb (nameLength bs) 7) (Some (symbolOf (nameLength bs) bs)) None) ≡ Some p → Found (37 ∷ bs) p
     go true e f =
         let s = begins-split 37 bs e in
@@ -144,6 +145,7 @@ first-sound (b ∷ bs) p e = go (eqb b 37) refl e
         some-is colons p (b ∷ bs) f (there colons (s .0) (b ∷ bs) (ap (λ x. x ∷ bs) q ∙ ap (λ x. 58 ∷ x) (s .1)) refl)
     colon-go false e n f =
         some-is (plain b) p (b ∷ bs) f (there (plain b) bs (b ∷ bs) refl (and-true _ _ (ap not n) (ap not e)))
+
     go : (z : Bool) → eqb b 37 ≡ z → cond z (afterPercent bs) (Some (cond (eqb b 58 && begins 58 bs) colons (plain b))) ≡ Some p → Found (b ∷ bs) p
     go true e f =
         let q : b ≡ 37 = grind (arith, tells) in

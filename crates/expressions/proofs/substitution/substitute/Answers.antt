@@ -50,13 +50,14 @@ pub loop-at-again : need.loop-at-again
 loop-at-again g c =
     let e = c .in-Continue-reading .ensures tt ∙ ap (λ x. readingOf (first x)) (take-rest (c .args .field .now) (c .loop-at .at)) in
     elim (c .match-text-given .came) [
-      in-Some w ↦
-        let n : length (w .append-held .last .bytes) ≡ 255 = w .append-held .kept .bytes ∙ c .loop-at .inv .size in
-        come-as _ _ _ _ _ _ _ _ _ (w .bytes-is) (w .held-is) (w .unknown-is)
-        (come-known _ (c .args .field .now) (c .loop-at .bytes) (w .append-held .last .bytes) (w .bytes .result .now) (c .loop-at .at) (c .loop-at .held) (w .append-held .result) (c .loop-at .unknown) (c .in-Continue-reading .reading) e (w .in-Some .ensures tt .0) (w .bytes .ensures .text ∙ w .in-Some .ensures tt .1) (w .append-held .ensures) n (c .loop-at .inv))
-    | in-None w ↦
-        come-as _ _ _ _ _ _ _ _ _ (w .bytes-is) (w .held-is) (w .unknown-is)
-        (come-unknown _ (c .args .field .now) (c .loop-at .bytes) (c .loop-at .at) (c .loop-at .held) (c .loop-at .unknown) (c .in-Continue-reading .reading) e (w .in-None .ensures tt) (c .loop-at .inv)) ]
+      | in-Some w ↦
+          let n : length (w .append-held .last .bytes) ≡ 255 = w .append-held .kept .bytes ∙ c .loop-at .inv .size in
+          come-as _ _ _ _ _ _ _ _ _ (w .bytes-is) (w .held-is) (w .unknown-is)
+          (come-known _ (c .args .field .now) (c .loop-at .bytes) (w .append-held .last .bytes) (w .bytes .result .now) (c .loop-at .at) (c .loop-at .held) (w .append-held .result) (c .loop-at .unknown) (c .in-Continue-reading .reading) e (w .in-Some .ensures tt .0) (w .bytes .ensures .text ∙ w .in-Some .ensures tt .1) (w .append-held .ensures) n (c .loop-at .inv))
+      | in-None w ↦
+          come-as _ _ _ _ _ _ _ _ _ (w .bytes-is) (w .held-is) (w .unknown-is)
+          (come-unknown _ (c .args .field .now) (c .loop-at .bytes) (c .loop-at .at) (c .loop-at .held) (c .loop-at .unknown) (c .in-Continue-reading .reading) e (w .in-None .ensures tt) (c .loop-at .inv))
+    ]
 
 pub returns-then-unknown : need.returns-then-unknown
 returns-then-unknown g c =
