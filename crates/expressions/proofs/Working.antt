@@ -215,3 +215,8 @@ no-end k σ most text i place rows known f past end gone =
     let s : gone .tree ≡ stageOf (levelOf (sumsOf t) Nothing None) (Some (lastOf t)) [] = some-is _ _ (sym (gone .ran) ∙ (ap (runs most start) same ∙ runs-tree most t (w .whole))) in
     let is = gone .is ∙ ap (mapS (valueIn k σ)) s in
     end .1 (valueIn k σ (lastOf t)) (ap (λ x. x .after) is) (sym piles ∙ ap (λ x. length (x .waits)) is))
+
+-- words that no walk reads are of no tree
+pub no-tree : (most : ℕ) (text : List ℕ) (ws : List Word) → PartsOf wordWritten wordFits ws text → runs most start ws ≡ None → (t : Tree) → Writes most t text → ⊥
+no-tree most text ws parts none t w =
+    none-is _ (sym none ∙ (ap (runs most start) (one-join wordReader ws (wordsOf t) text parts (w .words)) ∙ runs-tree most t (w .whole)))

@@ -10,3 +10,4 @@ pub mod Trees
 pub mod Walks
 pub mod Words
 pub mod Arithmetic
+pub mod Cases

@@ -1,5 +1,6 @@
 // What the parts of a statement mean: symbols and their values, text as a number, number as text, substitution.
 pub mod arithmetic;
+pub mod cases;
 pub mod classes;
 pub mod flaws;
 pub mod level;
