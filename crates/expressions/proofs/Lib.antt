@@ -1,6 +1,14 @@
 pub mod Scans
-pub mod Values
+pub mod Figures
 pub mod Holding
 pub mod Naming
 pub mod Chains
 pub mod Substituting
+pub mod Tables
+pub mod Joining
+pub mod Words
+pub mod Parsing
+pub mod Keeping
+pub mod Mapping
+pub mod Working
+pub mod Fine

@@ -24,10 +24,12 @@ use Rattle.expressions.specs.declared.piece.Gives.the-variants.{Byte, Named}
 use Rattle.expressions.specs.declared.piece.Reading.{Reading}
 use Rattle.expressions.specs.declared.symbol.Symbol.{Symbol}
 use Rattle.expressions.specs.Classes.{classOf, letterOrDigit}
-use Rattle.expressions.specs.Pieces.{Piece, plain, percent, colons, symbol, joined, pieceWritten, begins, single, letterFirst, written, lawfulBefore, Reads, nameOf, givesOf, Table, shownIf, isKnown, givenText, givenKnown, textOfAll, allKnown, Refused, Substituted}
+use Rattle.expressions.specs.Pieces.{Piece, plain, percent, colons, symbol, joined, pieceWritten, begins, single, letterFirst, Reads, nameOf, givesOf, Table, shownIf, isKnown, givenText, givenKnown, textOfAll, allKnown, Refused, Substituted}
 use Rattle.expressions.specs.Firsts.{nameLength, symbolOf, afterPercent, first, readingOf, Held}
 use Rattle.expressions.proofs.Naming.{and-true, first-sound}
-use Rattle.expressions.proofs.Chains.{Walk, walk-none, walk-more, walk-all, walk-broken}
+use Rattle.expressions.proofs.Joining.{come-start, come-more, come-all}
+use Rattle.expressions.proofs.Joining as joining
+use Rattle.expressions.proofs.Chains.{pieceReader, walk-broken}
 
 -- what is read of a symbol
 abbrev symbolRead : List ℕ → ℕ → Result Reading Flaw
@@ -101,13 +103,13 @@ read-none (Some p) f e = absurd (let z : _≡_ {A = ℕ} 0 1 = cc in omega arith
 -- how far substitution has come: the pieces so far, whether all are known, and their text
 pub record Come (t : Table) (field : List ℕ) (here : ℕ) (bytes : List ℕ) (held : Option ℕ) (unknown : Bool) : Type 0 where
   pub ps : List Piece
-  pub walk : Walk field here ps
+  pub walk : joining.Come pieceReader field here ps
   pub asked : unknown ≡ not (allKnown t ps)
   pub holds : Held bytes held (textOfAll t ps)
   pub size : length bytes ≡ 255
 
 pub come-none : (t : Table) (field bytes : List ℕ) → length bytes ≡ 255 → Come t field 0 bytes (Some 0) false
-come-none t field bytes n = record { ps = []; walk = walk-none field; asked = refl; holds = (refl, omega arith, refl); size = n }
+come-none t field bytes n = record { ps = []; walk = come-start pieceReader field; asked = refl; holds = (refl, omega arith, refl); size = n }
 
 pub come-known : (t : Table) (field bytes after text : List ℕ) (i : ℕ) (held next : Option ℕ) (unknown : Bool) (r : Reading)
     → Ok r ≡ readingOf (first (drop i field)) → givenKnown t (r .gives) ≡ true → text ≡ givenText t (r .gives)
@@ -119,7 +121,7 @@ come-known t field bytes after text i held next unknown r e known is more n come
     let k : allKnown t (come .ps ++ (p .0 ∷ [])) ≡ allKnown t (come .ps) && true = known-push t (come .ps) (p .0) ∙ ap (λ x. allKnown t (come .ps) && x) (ap (givenKnown t) (sym (p .2)) ∙ known) in
     record {
       ps = come .ps ++ (p .0 ∷ []);
-      walk = walk-more field i (r .width) (come .ps) (p .0) (p .1) (p .3) (come .walk);
+      walk = come-more pieceReader field i (r .width) (come .ps) (p .0) (p .1) (p .3) (come .walk);
       asked = come .asked ∙ sym (ap not (k ∙ go (allKnown t (come .ps))));
       holds = subst P (ap (λ x. textOfAll t (come .ps) ++ x) (is ∙ ap (givenText t) (p .2)) ∙ sym (text-push t (come .ps) (p .0))) (more (textOfAll t (come .ps)) (come .holds));
       size = n;
@@ -139,7 +141,7 @@ come-unknown t field bytes i held unknown r e known come =
     let k : allKnown t (come .ps ++ (p .0 ∷ [])) ≡ allKnown t (come .ps) && false = known-push t (come .ps) (p .0) ∙ ap (λ x. allKnown t (come .ps) && x) no in
     record {
       ps = come .ps ++ (p .0 ∷ []);
-      walk = walk-more field i (r .width) (come .ps) (p .0) (p .1) (p .3) (come .walk);
+      walk = come-more pieceReader field i (r .width) (come .ps) (p .0) (p .1) (p .3) (come .walk);
       asked = sym (ap not (k ∙ go (allKnown t (come .ps))));
       holds = subst P (sym (append-nil (textOfAll t (come .ps))) ∙ (ap (λ x. textOfAll t (come .ps) ++ x) (sym (unknown-text t (givesOf (p .0)) no)) ∙ sym (text-push t (come .ps) (p .0)))) (come .holds);
       size = come .size;
@@ -167,13 +169,13 @@ not-yet a false e f = absurd (let z : _≡_ {A = ℕ} 0 1 = cc in omega arith)
 
 pub ends-unknown : (t : Table) (field bytes : List ℕ) (i : ℕ) (held : Option ℕ) (unknown : Bool) → length field ≤ i → unknown ≡ true
     → Come t field i bytes held unknown → Refused t field UnknownSymbol
-ends-unknown t field bytes i held unknown past e come = (come .ps, walk-all field i (come .ps) past (come .walk), not-not _ _ (come .asked) e)
+ends-unknown t field bytes i held unknown past e come = (come .ps, come-all pieceReader field i (come .ps) past (come .walk), not-not _ _ (come .asked) e)
 
 pub ends-long : (t : Table) (field bytes before : List ℕ) (i : ℕ) (held : Option ℕ) (unknown : Bool) → length field ≤ i → unknown ≡ false → held ≡ None
     → Come t field i bytes held unknown → Substituted t field before before (Ok TooLong)
 ends-long t field bytes before i held unknown past e none come =
     let P : Option ℕ → Type 0 = λ o. Held bytes o (textOfAll t (come .ps)) in
-    (come .ps, walk-all field i (come .ps) past (come .walk), not-yet _ _ (come .asked) e, subst P none (come .holds), refl)
+    (come .ps, come-all pieceReader field i (come .ps) past (come .walk), not-yet _ _ (come .asked) e, subst P none (come .holds), refl)
 
 pub ends-whole : (t : Table) (field bytes before after part : List ℕ) (i n : ℕ) (held : Option ℕ) (unknown : Bool) → length field ≤ i → unknown ≡ false → held ≡ Some n
     → part ≡ take n bytes → after ≡ part ++ drop (length part) before
@@ -182,7 +184,7 @@ ends-whole t field bytes before after part i n held unknown past e some cut is c
     let P : Option ℕ → Type 0 = λ o. Held bytes o (textOfAll t (come .ps)) in
     let h = subst P some (come .holds) in
     let w : part ≡ textOfAll t (come .ps) = cut ∙ h .2 in
-    (come .ps, walk-all field i (come .ps) past (come .walk), not-yet _ _ (come .asked) e, h .0, h .1, is ∙ (ap₂ (λ x k. x ++ drop k before) w (ap length w ∙ sym (h .0))))
+    (come .ps, come-all pieceReader field i (come .ps) past (come .walk), not-yet _ _ (come .asked) e, h .0, h .1, is ∙ (ap₂ (λ x k. x ++ drop k before) w (ap length w ∙ sym (h .0))))
 
 variable-is : (b : ℕ) → classOf b ≡ Variable → eqb b 37 ≡ true
 variable-is b e = go (eqb b 37) (eqb b 38) (eqb b 58) (eqb b 39) e

@@ -4,3 +4,10 @@ pub mod Texts
 pub mod Numbers
 pub mod Pieces
 pub mod Firsts
+pub mod Joins
+pub mod Kinds
+pub mod Trees
+pub mod Walks
+pub mod Words
+pub mod Arithmetic
+pub mod Cases

@@ -19,6 +19,7 @@ use Rattle.expressions.specs.declared.piece.Gives.the-variants.{Byte, Named}
 use Rattle.expressions.specs.declared.piece.Reading.{Reading}
 use Rattle.expressions.specs.declared.symbol.Symbol.{Symbol}
 use Rattle.expressions.specs.Classes.{letter, letterOrDigit, every}
+use Rattle.expressions.specs.Joins.{joinOf, PartsOf}
 use Rattle.expressions.specs.Numbers.{shown}
 
 -- a piece of a field: a byte that stays, %%, ::, a symbol by what follows its %, and a symbol whose colon vanishes
@@ -71,17 +72,11 @@ fits (joined cs) rest = named cs && not (begins 58 rest)
 
 -- how pieces are written: the join of theirs
 abbrev pub written : List Piece → List ℕ
-written [] = []
-written (p ∷ ps) = pieceWritten p ++ written ps
+written ps = joinOf pieceWritten ps
 
--- each piece may stand before what follows it, up to these last bytes
-abbrev pub lawfulBefore : List Piece → List ℕ → Bool
-lawfulBefore [] end = true
-lawfulBefore (p ∷ ps) end = fits p (written ps ++ end) && lawfulBefore ps end
-
--- the pieces of a field
+-- the pieces of a field: it is their join, and each may stand before what follows it
 abbrev pub Reads : List Piece → List ℕ → Type 0
-Reads ps field = (written ps ≡ field) × (lawfulBefore ps [] ≡ true)
+Reads ps field = PartsOf pieceWritten fits ps field
 
 -- a field has at most one list of pieces
 abbrev pub OneReading : Type 0

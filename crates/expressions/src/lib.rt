@@ -1,6 +1,10 @@
 // What the parts of a statement mean: symbols and their values, text as a number, number as text, substitution.
+pub mod arithmetic;
+pub mod cases;
 pub mod classes;
 pub mod flaws;
+pub mod level;
+pub mod number;
 pub mod numbers;
 pub mod piece;
 mod pieces;
@@ -9,10 +13,19 @@ pub mod symbol;
 pub mod symbols;
 pub mod text;
 pub mod texts;
+mod tokens;
+pub mod value;
+pub mod values;
+mod walks;
 
+pub use arithmetic::work_out;
 pub use classes::Class;
 pub use classes::class_of;
 pub use flaws::Flaw;
+pub use level::Level;
+pub use level::Op;
+pub use level::Waiting;
+pub use number::Number;
 pub use numbers::number_of;
 pub use numbers::written_number;
 pub use piece::Filled;
@@ -21,3 +34,5 @@ pub use symbol::CallNumber;
 pub use symbol::Symbol;
 pub use symbols::Symbols;
 pub use text::Text;
+pub use value::Value;
+pub use values::evaluate;

@@ -18,12 +18,12 @@ use crate::symbols::NAME;
 use crate::texts::write_front;
 use lines::BLANK;
 
-const PERCENT: u8 = 37;
+pub(crate) const PERCENT: u8 = 37;
 
 const COLON: u8 = 58;
 
 // The most letters and digits after a symbol's %.
-const MOST_AFTER: usize = 7;
+pub(crate) const MOST_AFTER: usize = 7;
 
 // Do the bytes begin with this one?
 fn begins_with(bytes: &[u8], byte: u8) -> bool
@@ -33,7 +33,7 @@ fn begins_with(bytes: &[u8], byte: u8) -> bool
 }
 
 // Do the bytes begin with a letter?
-fn letter_first(bytes: &[u8]) -> bool
+pub(crate) fn letter_first(bytes: &[u8]) -> bool
     ensures { λ r. ⌜ r ≡ letterFirst (now (bytes .entry)) ⌝ }
 {
     bytes.len() > 0 && is_letter(bytes[0])
@@ -50,7 +50,7 @@ fn single_colon(bytes: &[u8]) -> bool
 }
 
 // How many letters and digits stand first.
-fn name_length(bytes: &[u8]) -> usize
+pub(crate) fn name_length(bytes: &[u8]) -> usize
     ensures value { λ r. ⌜ r ≡ nameLength (now (bytes .entry)) ⌝ }
     ensures bound { λ r. ⌜ r ≤ length (now (bytes .entry)) ⌝ }
 {
@@ -63,7 +63,7 @@ fn name_length(bytes: &[u8]) -> usize
 }
 
 // The name of a symbol: % and its letters and digits, filled with blanks.
-fn name_of(letters: &[u8]) -> [u8; NAME]
+pub(crate) fn name_of(letters: &[u8]) -> [u8; NAME]
     requires { ⌜ length (now letters) ≤ 7 ⌝ }
     ensures { λ r. ⌜ r ≡ nameOf (now (letters .entry)) ⌝ }
 {

@@ -7,7 +7,7 @@ use Rattle.std.proofs.shelf.Lists.{length-push}
 use Rattle.expressions.specs.Texts.{textOf}
 use Rattle.std.specs.Written.{decimal}
 use Rattle.std.proofs.shelf.Decimals.{decimal-digit, decimal-step}
-use Rattle.expressions.proofs.Values.{last-digit, ten-digits}
+use Rattle.expressions.proofs.Figures.{last-digit, ten-digits}
 use Rattle.expressions.proofs.numbers.+with_digits.Needs as need
 
 pub returns-then-number-lt-BASE : need.returns-then-number-lt-BASE

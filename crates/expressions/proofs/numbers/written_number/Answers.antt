@@ -8,7 +8,7 @@ use mir.Val.{toZ}
 use mir.Syntax.{w32}
 use Rattle.std.proofs.shelf.Signed.{ints}
 use Rattle.std.specs.declared.result.Result.the-variants.{Ok}
-use Rattle.expressions.proofs.Values.{value-more, over-early, value-all}
+use Rattle.expressions.proofs.Figures.{value-more, over-early, value-all}
 use Rattle.expressions.proofs.numbers.written_number.Needs as need
 
 pub returns-then-value-gt-HIGHEST : need.returns-then-value-gt-HIGHEST
