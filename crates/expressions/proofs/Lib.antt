@@ -12,3 +12,4 @@ pub mod Keeping
 pub mod Mapping
 pub mod Working
 pub mod Fine
+pub mod Bytewise

@@ -33,4 +33,7 @@ returns c =
       one-colon = λ b. (joined (codes "A") ∷ plain 66 ∷ [], (refl, refl), refl, sym (ap (λ x. length (x ++ (66 ∷ []))) three), omega arith, ap (λ x. (x ++ (66 ∷ [])) ++ drop 2 b) (sym three));
       three-colons = λ b. (symbol (codes "A") ∷ colons ∷ plain 58 ∷ plain 66 ∷ [], (refl, refl), refl, sym (ap (λ x. length (x ++ (58 ∷ 58 ∷ 66 ∷ []))) three), omega arith, ap (λ x. (x ++ (58 ∷ 58 ∷ 66 ∷ [])) ++ drop 4 b) (sym three));
       percents = λ b. (plain 53 ∷ percent ∷ plain 58 ∷ [], (refl, refl), refl, refl, omega arith, refl);
+      shorter-lower = refl;
+      zero-before = refl;
+      byte-decides = refl;
     }
