@@ -10,5 +10,7 @@ pub mod Words
 pub mod Parsing
 pub mod Keeping
 pub mod Mapping
+pub mod Apart
 pub mod Working
 pub mod Fine
+pub mod Bytewise

@@ -22,11 +22,12 @@ use Rattle.expressions.specs.Kinds.{Operations}
 use Rattle.expressions.specs.Pieces.{named, goesOn, Table}
 use Rattle.expressions.specs.Trees.{Tree, Word, numeral, variable, operator, open′, close, wordsOf, wordWritten, wordFits, wordKnown, wordsKnown, digitFirst, asSum, stands, valueIn, Writes, OneTree, NoValue, Worked}
 use Rattle.expressions.specs.Walks.{walkerOf, joinWith, levelOf, freshLevel, Stage, stageOf, stepOf, tokenIn, piled, stageIn, placeOf, Stepped, Ended, firstWordOf}
-use Rattle.expressions.specs.Joins.{PartsOf}
+use Rattle.expressions.specs.Joins.{joinOf, PartsOf}
 use Rattle.expressions.specs.Words.{readIn}
 use Rattle.expressions.proofs.Naming.{both}
 use Rattle.expressions.proofs.Joining.{Come, come-start, come-more, come-all, come-next, one-join}
 use Rattle.expressions.proofs.Words.{wordReader, word-sound}
+use Rattle.expressions.proofs.Apart.{parts-of}
 use Rattle.expressions.proofs.Parsing.{treeWalker, treeToken, andThen, runs, runs-append, runs-tree, start, sumsOf, lastOf, same-tree}
 use Rattle.expressions.proofs.Keeping.{Law, Kept, keeps, start-law, stageWords, wordOk, ends-in-tree}
 use Rattle.expressions.proofs.Mapping.{mapW, mapL, mapO, mapS, step-map, join-map}
@@ -39,7 +40,7 @@ some-is s t e = cc
 
 -- a text has at most one tree
 pub one-tree : OneTree
-one-tree most t u text wt wu = same-tree most t u (wt .whole) (wu .whole) (one-join wordReader (wordsOf t) (wordsOf u) text (wt .words) (wu .words))
+one-tree most t u text wt wu = same-tree most t u (wt .whole) (wu .whole) (one-join wordReader (wordsOf t) (wordsOf u) text (parts-of most t text wt) (parts-of most u text wu))
 
 -- how far an expression is worked out: the words so far, and the walk over them to trees
 pub record Gone {V : Type 0} (k : Operations V) (σ : Table) (most : ℕ) (text : List ℕ) (here : ℕ) (place : Place V) (rows : List (Level V)) (known : Bool) : Type 0 where
@@ -152,7 +153,7 @@ no-word k σ most text i place rows known f more e gone =
     let n = read-none k σ (firstWordOf (drop i text)) f e in
     let P : Flaw → Type 0 = NoValue σ most text in
     subst P (sym (n .1))
-    (λ t w. let c = come-next wordReader text i (gone .ws) (wordsOf t) more (gone .walk) (w .words) in none-is (c .0) (sym (n .0) ∙ c .2))
+    (λ t w. let c = come-next wordReader text i (gone .ws) (wordsOf t) more (gone .walk) (parts-of most t text w) in none-is (c .0) (sym (n .0) ∙ c .2))
 
 -- no tree is written where a word may not follow
 pub no-place : {V : Type 0} (k : Operations V) (σ : Table) (most : ℕ) (text : List ℕ) (i : ℕ) (place : Place V) (rows rows′ : List (Level V)) (known : Bool) (r : WordRead V) (f : Flaw)
@@ -163,7 +164,7 @@ no-place k σ most text i place rows rows′ known r f more e step gone =
     let none = no-step (valueIn k σ) (stepOf treeWalker most (gone .tree) (treeToken w)) (sym (step-of k σ most (gone .tree) place rows w r (gone .size) (gone .is) (p .2)) ∙ step .0) in
     let P : Flaw → Type 0 = NoValue σ most text in
     subst P (sym (step .1))
-    (λ t u. let c = come-next wordReader text i (gone .ws) (wordsOf t) more (gone .walk) (u .words) in
+    (λ t u. let c = come-next wordReader text i (gone .ws) (wordsOf t) more (gone .walk) (parts-of most t text u) in
     let same : c .0 ≡ w = some-is _ _ (sym (c .2) ∙ p .1) in
     let ran : runs most start (wordsOf t) ≡ None = ap (runs most start) (c .3) ∙ (runs-append most start (gone .ws) (c .0 ∷ c .1) ∙ (ap (λ o. andThen o (λ s. runs most s (c .0 ∷ c .1))) (gone .ran) ∙ (ap (λ x. runs most (gone .tree) (x ∷ c .1)) same ∙ ap (λ o. andThen o (λ s. runs most s (c .1))) none))) in
     none-is _ (sym ran ∙ runs-tree most t (u .whole)))
@@ -199,7 +200,7 @@ gone-whole k σ most text i place rows known v past end gone =
     let parts = come-all wordReader text i (gone .ws) past (gone .walk) in
     record {
       tree = u;
-      writes = record { whole = t .0; words = (let R : List Word → Type 0 = λ x. PartsOf wordWritten wordFits x text in subst R (sym words) parts) };
+      writes = record { whole = t .0; words = ap (joinOf wordWritten) words ∙ parts .0 };
       value = end .3 ∙ (ap₂ (joinWith (walkerOf k)) (ap (λ x. x .level .sums) (gone .is)) (a .2) ∙ join-map k σ (s .level .sums) (a .0));
       asked = gone .asked ∙ ap (wordsKnown σ) (sym words);
     }
@@ -211,7 +212,7 @@ no-end k σ most text i place rows known f past end gone =
     let parts = come-all wordReader text i (gone .ws) past (gone .walk) in
     let piles : length (piled (place .depth) rows) ≡ place .depth = length-reverse (take (place .depth) rows) ∙ length-take-le (place .depth) rows (gone .room) in
     subst P (sym (end .0))
-    (λ t w. let same : gone .ws ≡ wordsOf t = one-join wordReader (gone .ws) (wordsOf t) text parts (w .words) in
+    (λ t w. let same : gone .ws ≡ wordsOf t = one-join wordReader (gone .ws) (wordsOf t) text parts (parts-of most t text w) in
     let s : gone .tree ≡ stageOf (levelOf (sumsOf t) Nothing None) (Some (lastOf t)) [] = some-is _ _ (sym (gone .ran) ∙ (ap (runs most start) same ∙ runs-tree most t (w .whole))) in
     let is = gone .is ∙ ap (mapS (valueIn k σ)) s in
     end .1 (valueIn k σ (lastOf t)) (ap (λ x. x .after) is) (sym piles ∙ ap (λ x. length (x .waits)) is))
@@ -219,4 +220,4 @@ no-end k σ most text i place rows known f past end gone =
 -- words that no walk reads are of no tree
 pub no-tree : (most : ℕ) (text : List ℕ) (ws : List Word) → PartsOf wordWritten wordFits ws text → runs most start ws ≡ None → (t : Tree) → Writes most t text → ⊥
 no-tree most text ws parts none t w =
-    none-is _ (sym none ∙ (ap (runs most start) (one-join wordReader ws (wordsOf t) text parts (w .words)) ∙ runs-tree most t (w .whole)))
+    none-is _ (sym none ∙ (ap (runs most start) (one-join wordReader ws (wordsOf t) text parts (parts-of most t text w)) ∙ runs-tree most t (w .whole)))

@@ -1,6 +1,7 @@
 -- Worked cases.
 use Prim.Native.Nat.{ℕ}
 use mathlib.Core.List.{List, _++_}
+use mathlib.Core.Path.{_≡_}
 use lib.Chars.{codes}
 use lib.IntN.{pos, negsuc}
 use lib.ListN.{drop}
@@ -10,6 +11,8 @@ use Rattle.expressions.specs.declared.flaws.Flaw.the-variants.{NoForm, Unknown
 use Rattle.expressions.specs.declared.piece.Filled.the-variants.{Length}
 use Rattle.expressions.specs.declared.symbol.Symbol.the-variants.{Arithmetic}
 use Rattle.expressions.specs.Arithmetic.{Answers}
+use Rattle.expressions.specs.declared.order.Order.the-variants.{Lower, Higher}
+use Rattle.expressions.specs.Compared.{compared}
 use Rattle.expressions.specs.Pieces.{Table, Substituted}
 
 -- no name is known
@@ -37,3 +40,6 @@ pub record WorkedCases : Type 0 where
   pub one-colon : (before : List ℕ) → Substituted allThree (codes "%A:B") before (codes "3B" ++ drop 2 before) (Ok (Length 2))
   pub three-colons : (before : List ℕ) → Substituted allThree (codes "%A:::B") before (codes "3::B" ++ drop 4 before) (Ok (Length 4))
   pub percents : (before : List ℕ) → Substituted noneKnown (codes "5%%:") before (codes "5%:" ++ drop 3 before) (Ok (Length 3))
+  pub shorter-lower : compared (codes "Z") (codes "AA") ≡ Lower
+  pub zero-before : compared (codes "20") (codes "020") ≡ Lower
+  pub byte-decides : compared (codes "AB") (codes "AA") ≡ Higher

@@ -11,3 +11,4 @@ pub mod Walks
 pub mod Words
 pub mod Arithmetic
 pub mod Cases
+pub mod Compared

@@ -12,7 +12,7 @@ use Rattle.expressions.specs.declared.flaws.Flaw.the-variants.{NoForm, Unknown
 use Rattle.expressions.specs.declared.level.Op.{Op}
 use Rattle.expressions.specs.declared.level.Op.the-variants.{Plus, Minus, Times, Over}
 use Rattle.expressions.specs.Classes.{digit, digits}
-use Rattle.expressions.specs.Joins.{joinOf, lawfulOf, PartsOf}
+use Rattle.expressions.specs.Joins.{joinOf}
 use Rattle.expressions.specs.Kinds.{Operations}
 use Rattle.expressions.specs.Pieces.{goesOn, named, nameOf, Table, isKnown}
 
@@ -114,10 +114,14 @@ stands most n s (applied o a b) =
     cond (additive o) (takesSum s && (stands most n asSum a && stands most n asProduct b)) (takesProduct s && (stands most n (leftPlace s) a && stands most n asFactor b))
 stands most n s (group t) = ltb n most && stands most (suc n) asSum t
 
--- a text is written as this tree
+-- how a tree is written: the join of its words
+abbrev pub treeWritten : Tree → List ℕ
+treeWritten t = joinOf wordWritten (wordsOf t)
+
+-- a text is written as this tree, which stands as a whole expression
 pub record Writes (most : ℕ) (t : Tree) (text : List ℕ) : Type 0 where
   pub whole : stands most 0 asSum t ≡ true
-  pub words : PartsOf wordWritten wordFits (wordsOf t) text
+  pub words : treeWritten t ≡ text
 
 -- a text has at most one tree
 abbrev pub OneTree : Type 0

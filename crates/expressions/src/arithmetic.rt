@@ -10,7 +10,7 @@ use crate::level::Place;
 use crate::number::Number;
 use crate::symbols::Symbols;
 use crate::tokens::first_word;
-use crate::walks::fresh;
+use crate::walks::fresh_level;
 use crate::walks::joined;
 use crate::walks::take_word;
 
@@ -45,7 +45,7 @@ pub fn work_out<S: Symbols, V: Number>(
     ensures one { λ _. ⌜ OneTree ⌝ }
 {
     let mut place = Place {
-        level: fresh(),
+        level: fresh_level(),
         after: None,
         depth: 0,
     };

@@ -16,7 +16,7 @@ use crate::numbers::written_number;
 use crate::symbol::Symbol;
 use crate::symbols::Symbols;
 use crate::value::Value;
-use crate::walks::fresh;
+use crate::walks::fresh_level;
 
 // The most parentheses that may be open at a time.
 pub const MOST_LEVELS: usize = 15;
@@ -156,7 +156,7 @@ pub fn evaluate<S: Symbols>(symbols: &S, text: &[u8]) -> Result<i32, Flaw>
     ensures answer { λ r. ⌜ Answers (S·Symbols .meaning (now (symbols .entry))) (now (text .entry)) r ⌝ }
     ensures one { λ _. ⌜ OneTree ⌝ }
 {
-    let mut levels: [Level<Value>; MOST_LEVELS] = [fresh(); MOST_LEVELS];
+    let mut levels: [Level<Value>; MOST_LEVELS] = [fresh_level(); MOST_LEVELS];
     match work_out(symbols, text, &mut levels)? {
         Value::Whole(number) => Ok(number),
         Value::Lost(flaw) => Err(flaw),

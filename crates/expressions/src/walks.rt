@@ -85,7 +85,7 @@ fn after_factor<V: Number>(level: Level<V>, factor: V, depth: usize) -> Place<V>
 }
 
 // A level on which nothing is read.
-pub(crate) fn fresh<V: Number>() -> Level<V>
+pub fn fresh_level<V: Number>() -> Level<V>
     ensures { λ r. ⌜ r ≡ freshLevel ⌝ }
 {
     Level {
@@ -147,7 +147,7 @@ fn opened<V: Number>(
     }
     levels[depth] = level;
     Ok(Place {
-        level: fresh(),
+        level: fresh_level(),
         after: None,
         depth: depth + 1,
     })

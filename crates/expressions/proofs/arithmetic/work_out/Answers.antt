@@ -13,7 +13,7 @@ use Rattle.expressions.proofs.Working.{Gone, one-tree, gone-start, gone-more, 
 use Rattle.expressions.proofs.arithmetic.work_out.Needs as need
 
 pub loop-at-holds : need.loop-at-holds
-loop-at-holds g c = gone-start _ _ _ (c .args .text .now) _ (c .args .levels .now) (ap (λ l. placeOf l None 0) (c .fresh .ensures)) refl
+loop-at-holds g c = gone-start _ _ _ (c .args .text .now) _ (c .args .levels .now) (ap (λ l. placeOf l None 0) (c .fresh-level .ensures)) refl
 
 pub returns-in-Break-word : need.returns-in-Break-word
 returns-in-Break-word g c =
