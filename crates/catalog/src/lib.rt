@@ -1,4 +1,6 @@
 // Libraries that stand somewhere: over a text, one behind another; and a library as text.
+#![tactic(auto)]
+
 pub mod chain;
 pub mod chains;
 pub mod entry;

@@ -1,4 +1,6 @@
 // EXPAND: reads a site file from standard input and prints its listing.
+#![tactic(auto)]
+
 use listing::{SITE_BYTES, listing};
 use std::io;
 use std::io::{Read, Write};

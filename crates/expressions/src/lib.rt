@@ -1,4 +1,6 @@
 // What the parts of a statement mean: symbols and their values, text as a number, number as text, substitution.
+#![tactic(auto)]
+
 pub mod arithmetic;
 pub mod cases;
 pub mod classes;

@@ -1,4 +1,6 @@
 // Layers over any source: the engine that runs any machine, and the END layer.
+#![tactic(auto)]
+
 pub mod end;
 pub mod ends;
 pub mod layered;

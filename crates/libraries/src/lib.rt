@@ -1,4 +1,6 @@
 // Macro libraries: what every library owes, lawful definitions, and the check of a library text.
+#![tactic(auto)]
+
 pub mod check;
 pub mod flaws;
 pub mod library;

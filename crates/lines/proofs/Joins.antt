@@ -1,8 +1,8 @@
 -- The fields of a line join to the line.
-use Rattle.std.proofs.Common.{◌≡◌, ℕ, zero, suc, ◌+◌, ◌≤◌, Bool, true, false, cond, not, ◌&&◌, eqb, List, [], ◌∷◌, ◌++◌, length, take, drop, replicate, sym, refl, ap, ◌∙◌, ap₂, arith, take-append-drop}
+use Rattle.std.proofs.Common.{◌≡◌, ℕ, suc, Bool, true, false, cond, not, ◌&&◌, eqb, List, [], ◌∷◌, ◌++◌, length, take, drop, sym, refl, ap, ◌∙◌, ap₂, arith, take-append-drop}
 use Rattle.std.proofs.lemmas.Bool.{eqb-true}
 use Rattle.lines.specs.declared.nest.Nest.{Nest}
-use Rattle.lines.specs.Fields.{first_by, first_blank, blanks_length, word, past_blanks, past_word, from_operand, operand_of, remark_of}
+use Rattle.lines.specs.Fields.{first_by, first_blank, blanks_length, word, past_blanks, past_word, from_operand, operand_of}
 use Rattle.lines.specs.Laws.{blanks, Parts, Joined}
 use Rattle.lines.specs.Nesting.{past, outside, end_by, operand_end, start}
 

@@ -1,5 +1,5 @@
 -- What the fields of a line and the parts of an operand are, by what they join to.
-use Rattle.std.specs.Prelude.{◌≡◌, ℕ, Bool, true, false, cond, ◌&&◌, eqb, List, [], ◌∷◌, ◌++◌, length, replicate}
+use Rattle.std.specs.Prelude.{◌≡◌, ℕ, List, [], ◌++◌, length, replicate}
 use Rattle.lines.specs.Fields.{first_blank, word, past_word, operand_of, remark_of}
 use Rattle.lines.specs.Nesting.{operand_end}
 

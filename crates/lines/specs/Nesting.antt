@@ -1,5 +1,5 @@
 -- Apostrophes and parentheses: where a byte stands outside them, what is closed, and the parts between commas.
-use Rattle.std.specs.Prelude.{ℕ, suc, pred, ◌+◌, Bool, true, false, cond, not, ◌&&◌, List, [], ◌∷◌, ◌==◌}
+use Rattle.std.specs.Prelude.{ℕ, suc, pred, ◌+◌, Bool, false, cond, not, ◌&&◌, List, [], ◌∷◌, ◌==◌}
 use Rattle.lines.specs.declared.nest.Nest.{Nest}
 
 -- between apostrophes or not, and so many parentheses open

@@ -1,4 +1,6 @@
 // Bytes of a line: characters, words and blanks, and the operation field.
+#![tactic(auto)]
+
 pub mod field;
 pub mod fields;
 pub mod kinds;

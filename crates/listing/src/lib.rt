@@ -1,4 +1,6 @@
 // Every byte that EXPAND prints.
+#![tactic(auto)]
+
 ghost use Rattle.std.specs.Prelude.{◌≡◌, ◌^◌, ◌<◌, [], ◌∷◌, ◌++◌, IfOk, string_bytes, codes, OnOk};
 ghost use Rattle.sources.specs.Hearings.{text_of};
 ghost use Rattle.piles.specs.Prices.{total};

@@ -1,4 +1,6 @@
 // Lists of requests to any pile, with what holds of every list.
+#![tactic(auto)]
+
 pub mod alike;
 pub mod request;
 pub mod requests;

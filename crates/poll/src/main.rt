@@ -1,4 +1,6 @@
 // POLL: puts layers over a text from standard input, makes a list of requests, and prints each reply.
+#![tactic(auto)]
+
 use anyhow::anyhow;
 use listing::SITE_BYTES;
 use polling::{poll_pile, reply_line, requests_for, shape_named};

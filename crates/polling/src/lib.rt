@@ -1,4 +1,6 @@
 // Piles of a few fixed shapes over a text, any list of requests to one, and how a reply is printed.
+#![tactic(auto)]
+
 pub mod asking;
 pub mod shape;
 pub mod shapes;

@@ -1,5 +1,5 @@
 -- From the contract of NEXT to what a layer hears, and back.
-use Rattle.std.proofs.Common.{◌≡◌, ℕ, suc, ◌+◌, ◌<◌, ◌≤◌, Bool, true, false, cond, ltb, leb, List, [], ◌∷◌, ◌++◌, length, take, drop, replicate, Some, None, Ok, Err, Option, Result, sym, refl, ap, ◌∙◌, subst, append-nil, arith}
+use Rattle.std.proofs.Common.{◌≡◌, ℕ, suc, ◌<◌, ◌≤◌, Bool, true, false, cond, ltb, leb, List, [], ◌∷◌, ◌++◌, length, take, drop, Some, None, Ok, Err, Result, sym, refl, ap, ◌∙◌, subst, append-nil, arith}
 use Rattle.std.proofs.lemmas.Bool.{ltb-true, ltb-false, leb-true, leb-false, le-ltb, le-leb, lt-leb}
 use Rattle.std.proofs.lemmas.List.{take-append-le, length-take, drop_all}
 use Rattle.lines.specs.Characters.{characters}
@@ -14,8 +14,8 @@ use Rattle.sources.specs.declared.hearing.Heard.TheVariants.{Got, Waits, Over}
 use Rattle.sources.specs.declared.hearing.Hearing.{Hearing}
 use Rattle.sources.specs.Hearings.{text_of, HearsOf, Hears, tells_of, tells, delivers_of, delivers}
 use Rattle.sources.specs.Lines.{filled, written}
-use Rattle.sources.specs.Meaning.{Priced, Remains, remaining, price, first_price, next_price, spend}
-use Rattle.sources.specs.Replies.{Turn, turning, turn_of, refusal_of, replying, reply_of, Replies, LineIn, StandsIn, Lawful, spent_by}
+use Rattle.sources.specs.Meaning.{Priced, Remains, price, first_price, spend}
+use Rattle.sources.specs.Replies.{Turn, turning, turn_of, refusal_of, replying, reply_of, Replies, StandsIn, Lawful, spent_by}
 use Rattle.sources.proofs.Filling.{length_filled, take_filled}
 
 -- what an answer says of what remained, over the parts of what remains

@@ -1,5 +1,5 @@
 -- The first line of a text and the rest.
-use Rattle.std.proofs.Common.{◌≡◌, ℕ, suc, ◌+◌, ◌<◌, Bool, true, false, cond, eqb, List, [], ◌∷◌, length, take, drop, sym, refl, ap, ◌∙◌, suc-add, arith}
+use Rattle.std.proofs.Common.{◌≡◌, ℕ, suc, ◌+◌, ◌<◌, Bool, true, false, cond, eqb, List, [], ◌∷◌, length, take, drop, refl, ap, suc-add, arith}
 use Rattle.sources.specs.Texts.{onto, lines_of, first_end}
 
 pub first_line : (bs : List ℕ) → 0 < length bs → lines_of bs ≡ take (first_end bs) bs ∷ lines_of (drop (first_end bs + 1) bs)

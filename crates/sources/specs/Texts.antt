@@ -1,13 +1,13 @@
 -- The meaning of a text as a source.
-use Rattle.std.specs.Prelude.{ℕ, ◌+◌, Bool, true, false, cond, List, [], ◌∷◌, length, Some, None, Option, ◌==◌, nat_le, refl}
+use Rattle.std.specs.Prelude.{ℕ, cond, List, [], ◌∷◌, length, Some, None, Option, ◌==◌, nat_le, refl}
 use Rattle.lines.specs.Characters.{characters}
 use Rattle.lines.specs.Fields.{first_at}
 use Rattle.sources.specs.declared.faults.Cause.{Cause}
 use Rattle.sources.specs.declared.faults.Cause.TheVariants.{LineTooLong, BadCharacter}
 use Rattle.sources.specs.declared.faults.Ending.{Ending}
-use Rattle.sources.specs.declared.faults.Ending.TheVariants.{End, Failed}
+use Rattle.sources.specs.declared.faults.Ending.TheVariants.{End}
 use Rattle.sources.specs.Faults.{counted, found}
-use Rattle.sources.specs.Meaning.{Paced, Priced, Remains, pay, remaining}
+use Rattle.sources.specs.Meaning.{Paced, Remains, pay, remaining}
 
 -- a byte before the first line of a text
 abbrev pub onto : ℕ → List (List ℕ) → List (List ℕ)

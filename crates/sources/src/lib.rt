@@ -1,4 +1,6 @@
 // Sources of priced lines: faults, answers and refusals, the trait every source meets, and the text source.
+#![tactic(auto)]
+
 pub mod answers;
 pub mod faults;
 pub mod hearing;

@@ -3,6 +3,8 @@
 // A case is a line `= NAME`, a line `LAYERS REQUESTS` as POLL takes them, or `check` for a library text, and the text: a
 // line `|BYTES` for each of its lines, or `+BYTES` for one without its byte 10. In the bytes \HH is the byte of that
 // hexadecimal number. A line `*COUNT|BYTES` stands for as many such lines.
+#![tactic(auto)]
+
 use anyhow::anyhow;
 use libraries::check_text;
 use polling::{poll_pile, reply_line, requests_for, shape_named};

@@ -4,4 +4,4 @@ use Rattle.lines.proofs.past_blanks.Goals as goal
 
 pub returns : goal.returns
 returns c =
-    take_rest c.args.bytes.now c.blanks-length-length.result ∙ ap (λ n. drop n c.args.bytes.now) c.blanks-length-length.ensures.value
+    take_rest c.args.bytes.now c.blanks_length-length.result ∙ ap (λ n. drop n c.args.bytes.now) c.blanks_length-length.ensures.value

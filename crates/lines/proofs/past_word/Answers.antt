@@ -5,4 +5,4 @@ use Rattle.lines.proofs.past_word.Goals as goal
 
 pub returns : goal.returns
 returns c =
-    c.past-blanks.ensures ∙ ap past_blanks (take_rest c.args.bytes.now c.first-at-length.result ∙ ap (λ n. drop n c.args.bytes.now) c.first-at-length.ensures.value)
+    c.past_blanks.ensures ∙ ap past_blanks (take_rest c.args.bytes.now c.first_at-length.result ∙ ap (λ n. drop n c.args.bytes.now) c.first_at-length.ensures.value)

@@ -3,4 +3,4 @@ use Rattle.catalog.proofs.places.past_lines.Goals as goal
 
 pub loop-preserved : goal.loop-preserved
 loop-preserved c =
-    after_more c.args.count c.loop.counter c.first-at.result c.loop.rest.now c.after-byte-rest.result.now _ c.loop-test.true c.first-at.ensures.value c.after-byte-rest.ensures c.loop.invariant
+    after_more c.args.count c.loop.counter c.first_at.result c.loop.rest.now c.after_byte-rest.result.now _ c.loop-test.true c.first_at.ensures.value c.after_byte-rest.ensures c.loop.invariant

@@ -14,7 +14,7 @@ returns-then-number-lt-BASE t c =
 pub pushed-requires-2 : goal.pushed-requires-2
 pushed-requires-2 t c =
     let few = ten_digits (c.args.number / 10) (omega arith) in
-    omega (arith, c.with-digits-tens.ensures.room)
+    omega (arith, c.with_digits-tens.ensures.room)
 
 pub returns : goal.returns
 returns t c =
@@ -23,6 +23,6 @@ returns t c =
     let small : n < 2 ^ 32 = omega arith in
     let long : length (decimal n) ≡ length (decimal (n / 10)) + 1 = ap length (decimal_step n some (omega arith)) ∙ length_push (decimal (n / 10)) (48 + n % 10) in
     record {
-      text = c.pushed-2.ensures.text ∙ (ap (λ d. d ++ ((48 + n % 10) ∷ [])) c.with-digits-tens.ensures.text ∙ last_digit (text_of c.args.front) n some small);
-      room = omega (arith, c.pushed-2.ensures.len, c.with-digits-tens.ensures.room);
+      text = c.pushed-2.ensures.text ∙ (ap (λ d. d ++ ((48 + n % 10) ∷ [])) c.with_digits-tens.ensures.text ∙ last_digit (text_of c.args.front) n some small);
+      room = omega (arith, c.pushed-2.ensures.len, c.with_digits-tens.ensures.room);
     }

@@ -7,4 +7,4 @@ use Rattle.expressions.proofs.pieces.first_piece.Goals as goal
 pub returns-in-Variable : goal.returns-in-Variable
 returns-in-Variable c =
     let field = c.args.field.now in
-    c.after-percent.ensures ∙ (ap (λ x. reading_of (after_percent x)) (take_rest field 1) ∙ ap reading_of (sym (first_percent field c.requires (sym c.in-Variable.ensures))))
+    c.after_percent.ensures ∙ (ap (λ x. reading_of (after_percent x)) (take_rest field 1) ∙ ap reading_of (sym (first_percent field c.requires (sym c.in-Variable.ensures))))

@@ -7,11 +7,11 @@ use Rattle.expressions.specs.Words.{read_in}
 use Rattle.expressions.proofs.Words.{reads_numeral, reads_variable}
 use Rattle.expressions.proofs.tokens.first_word.Goals as goal
 
-pub returns-then-is-digit : goal.returns-then-is-digit
-returns-then-is-digit g c =
+pub returns-then-is_digit : goal.returns-then-is_digit
+returns-then-is_digit g c =
     let text = c.args.text.now in
-    let n = c.digits-length-len.result in
-    reads_numeral g.V.Number.operations (g.S.Symbols.meaning c.args.symbols.now) text c.of-digits.result n c.requires (sym c.if-is-digit.ensures) c.digits-length-len.ensures.value (c.of-digits.ensures ∙ ap (λ i. g.V.Number.operations.digits (take i text)) (sub-zero n))
+    let n = c.digits_length-len.result in
+    reads_numeral g.V.Number.operations (g.S.Symbols.meaning c.args.symbols.now) text c.of_digits.result n c.requires (sym c.if-is_digit.ensures) c.digits_length-len.ensures.value (c.of_digits.ensures ∙ ap (λ i. g.V.Number.operations.digits (take i text)) (sub-zero n))
 
 pub returns-then-byte-eq-PERCENT : goal.returns-then-byte-eq-PERCENT
 returns-then-byte-eq-PERCENT g c =
@@ -19,4 +19,4 @@ returns-then-byte-eq-PERCENT g c =
     let k = g.V.Number.operations in
     let σ = g.S.Symbols.meaning c.args.symbols.now in
     let is : get_or text 0 0 ≡ 37 = omega arith in
-    c.symbol-word.ensures ∙ (ap (λ x. read_in k σ (variable_at x)) (take_rest text 1) ∙ ap (read_in k σ) (sym (reads_variable text c.requires is)))
+    c.symbol_word.ensures ∙ (ap (λ x. read_in k σ (variable_at x)) (take_rest text 1) ∙ ap (read_in k σ) (sym (reads_variable text c.requires is)))

@@ -8,4 +8,4 @@ returns g c =
     let m = c.args.depth - 1 in
     let l = c.index-levels-depth.result in
     let some : m < length rows = omega arith in
-    (l, m, omega arith, take_more rows m l some ∙ ap (λ x. take m rows ++ (x ∷ [])) (sym c.index-levels-depth.is), c.after-factor.ensures)
+    (l, m, omega arith, take_more rows m l some ∙ ap (λ x. take m rows ++ (x ∷ [])) (sym c.index-levels-depth.is), c.after_factor.ensures)

@@ -10,13 +10,13 @@ returns-in-Err c =
     let rest = c.loop-rest.rest.now in
     let part = c.front.result.now in
     let r = reading_of c.loop-rest.reader in
-    let poor = ap (λ i. read_in r.phase r i part) (sym c.count-line-taken.ensures) ∙ c.in-Err.ensures in
-    read_found rest part c.first-at-end.result c.loop-rest.taken c.loop-rest-test.true c.first-at-end.ensures.value c.front.ensures r c.in-Err.found _ poor c.loop-rest.invariant
+    let poor = ap (λ i. read_in r.phase r i part) (sym c.count_line-taken.ensures) ∙ c.in-Err.ensures in
+    read_found rest part c.first_at-end.result c.loop-rest.taken c.loop-rest-test.true c.first_at-end.ensures.value c.front.ensures r c.in-Err.found _ poor c.loop-rest.invariant
 
 pub loop-rest-smaller : goal.loop-rest-smaller
 loop-rest-smaller c =
-    let e = ap length c.after-byte-rest.ensures in
-    let d = length-drop (c.first-at-end.result + 1) c.loop-rest.rest.now in
+    let e = ap length c.after_byte-rest.ensures in
+    let d = length-drop (c.first_at-end.result + 1) c.loop-rest.rest.now in
     let t = c.loop-rest-test.true in
     omega (arith, e, d, t)
 
@@ -26,10 +26,10 @@ loop-rest-preserved c =
     let part = c.front.result.now in
     let r = reading_of c.loop-rest.reader in
     let r' = reading_of c.read.new.self in
-    let rest' = c.after-byte-rest.result.now in
-    let fine = ap (λ i. read_in r.phase r i part) (sym c.count-line-taken.ensures) ∙ c.in-default.ensures in
-    ap (λ i. read_from i (lines_of rest') r') c.count-line-taken.ensures
-    ∙ read_more rest part c.first-at-end.result c.loop-rest.taken c.loop-rest-test.true c.first-at-end.ensures.value c.front.ensures r r' rest' _ fine c.after-byte-rest.ensures c.loop-rest.invariant
+    let rest' = c.after_byte-rest.result.now in
+    let fine = ap (λ i. read_in r.phase r i part) (sym c.count_line-taken.ensures) ∙ c.in_default.ensures in
+    ap (λ i. read_from i (lines_of rest') r') c.count_line-taken.ensures
+    ∙ read_more rest part c.first_at-end.result c.loop-rest.taken c.loop-rest-test.true c.first_at-end.ensures.value c.front.ensures r r' rest' _ fine c.after_byte-rest.ensures c.loop-rest.invariant
 
 pub returns : goal.returns
 returns c = c.finish.ensures ∙ read_done c.loop-rest.rest.now c.loop-rest.taken (reading_of c.loop-rest.reader) _ c.loop-rest-test.false c.loop-rest.invariant

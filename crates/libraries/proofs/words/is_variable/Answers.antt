@@ -8,4 +8,4 @@ pub returns : goal.returns
 returns c =
     let bs = c.args.bytes.now in
     let some : 0 < length bs = omega arith in
-    ap (λ x. eqb (get_or bs 0 0) 37 && (x && leb (length (between 1 (length bs) bs)) 7)) c.is-word.ensures ∙ sym (ap is_variable (first_rest bs 0 some))
+    ap (λ x. eqb (get_or bs 0 0) 37 && (x && leb (length (between 1 (length bs) bs)) 7)) c.is_word.ensures ∙ sym (ap is_variable (first_rest bs 0 some))

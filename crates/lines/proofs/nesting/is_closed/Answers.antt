@@ -11,4 +11,4 @@ loop-byte-preserved c = (
 
 pub returns : goal.returns
 returns c =
-    c.is-outside.ensures ∙ ap outside (past_end c.loop-byte.nest _ c.args.bytes.now c.loop-byte.byte-index c.loop-byte-test.false c.loop-byte.invariant.0)
+    c.is_outside.ensures ∙ ap outside (past_end c.loop-byte.nest _ c.args.bytes.now c.loop-byte.byte-index c.loop-byte-test.false c.loop-byte.invariant.0)

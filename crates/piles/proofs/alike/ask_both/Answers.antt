@@ -12,6 +12,6 @@ returns g c =
     λ means state same.
     each_same (laid_meaning m.rule s.meaning) (laid_tick m.rule s.meaning s.tick) (laid_paced m.rule m.falls s.meaning s.tick s.paced)
     (laid_meaning m.rule r.meaning) (laid_tick m.rule r.meaning r.tick) (laid_paced m.rule m.falls r.meaning r.tick r.paced)
-    _ _ 0 0 c.args.requests.now c.make-requests.new.requests c.args.others.now c.make-requests-2.new.requests
+    _ _ 0 0 c.args.requests.now c.make_requests.new.requests c.args.others.now c.make_requests-2.new.requests
     (c.over-pile.ensures.meaning ∙ ap₂ (layered m.rule) state means ∙ sym c.over-copy.ensures.meaning) refl same
-    c.make-requests.ensures.each c.make-requests-2.ensures.each
+    c.make_requests.ensures.each c.make_requests-2.ensures.each

@@ -7,7 +7,7 @@ use Rattle.polling.proofs.asking.requests_for.Goals as goal
 
 pub loop-words-preserved : goal.loop-words-preserved
 loop-words-preserved c =
-    let q = c.in-ok-request-for.field-0 in
-    let e = pushed (q ∷ []) refl c.in-ok-push.was c.push.ensures.items in
+    let q = c.in_ok-request_for.field-0 in
+    let e = pushed (q ∷ []) refl c.in_ok-push.was c.push.ensures.items in
     let P : List Request → Type 0 = λ qs. Unmade qs in
-    subst P (sym e) (unmade_push (vec_items c.loop-words.requests) q c.loop-words.invariant c.in-ok-request-for.ensures)
+    subst P (sym e) (unmade_push (vec_items c.loop-words.requests) q c.loop-words.invariant c.in_ok-request_for.ensures)

@@ -1,10 +1,9 @@
-use Rattle.std.proofs.Common.{◌≡◌, ℕ, ◌≤◌, ◌∷◌, length, take, replicate, sym, refl, ap, ◌∙◌, subst, ap₂, arith, rules}
+use Rattle.std.proofs.Common.{◌≡◌, ℕ, ◌≤◌, ◌∷◌, length, take, replicate, sym, ap, ◌∙◌, subst, ap₂, arith}
 use Rattle.std.proofs.lemmas.Result.{err_from_is_err_and}
 use Rattle.std.proofs.lemmas.List.{length-replicate}
 use Rattle.sources.specs.declared.answers.Told.{Told}
 use Rattle.sources.specs.declared.answers.Told.TheVariants.{Line, Held, Ended}
 use Rattle.sources.specs.Hearings.{text_of}
-use Rattle.sources.specs.Meaning.{Priced}
 use Rattle.sources.specs.Replies.{LineIn, StandsIn}
 use Rattle.sources.proofs.Hear.{heard_at, refusal_says, received_line}
 use Rattle.sources.proofs.requests.ask.Goals as goal
@@ -16,16 +15,16 @@ own = length-replicate {A = ℕ} 80 32
 own_fits : 80 ≤ length (replicate {A = ℕ} 80 32)
 own_fits = omega (arith, own)
 
-pub returns-in-err-answer : goal.returns-in-err-answer
-returns-in-err-answer g c =
-    let p = err_from_is_err_and c.from-residual.result c.from-residual.ensures.1 in
-    let e = c.in-err-answer.ensures in
+pub returns-in_err-answer : goal.returns-in_err-answer
+returns-in_err-answer g c =
+    let p = err_from_is_err_and c.from_residual.result c.from_residual.ensures.1 in
+    let e = c.in_err-answer.ensures in
     let r = refusal_says _ _ _ _ own_fits e.replies.answer in
     rw (p.1, p.2) (record { heard = r; reached = e.reached })
 
 pub received-requires : goal.received-requires
 received-requires g c =
-    let e = c.in-ok-answer.ensures in
+    let e = c.in_ok-answer.ensures in
     let h = (heard_at _ _ _ _ _ _ (Line c.in-Line.len) own_fits e.replies c.in-Line.is).1 in
     let P : Told → Type 0 = λ t. StandsIn t c.next.new.buffer in
     let stands : LineIn c.in-Line.len c.next.new.buffer = subst P c.in-Line.is e.lawful in
@@ -34,7 +33,7 @@ received-requires g c =
 
 pub returns-in-Line : goal.returns-in-Line
 returns-in-Line g c =
-    let e = c.in-ok-answer.ensures in
+    let e = c.in_ok-answer.ensures in
     let k = heard_at _ _ _ _ _ _ (Line c.in-Line.len) own_fits e.replies c.in-Line.is in
     let h = k.1 in
     let P : Told → Type 0 = λ t. StandsIn t c.next.new.buffer in
@@ -48,12 +47,12 @@ returns-in-Line g c =
 
 pub returns-in-Held : goal.returns-in-Held
 returns-in-Held g c =
-    let e = c.in-ok-answer.ensures in
+    let e = c.in_ok-answer.ensures in
     let h = heard_at _ _ _ _ _ _ Held own_fits e.replies c.in-Held.is in
     record { heard = h; reached = e.reached }
 
 pub returns-in-Ended : goal.returns-in-Ended
 returns-in-Ended g c =
-    let e = c.in-ok-answer.ensures in
+    let e = c.in_ok-answer.ensures in
     let h = heard_at _ _ _ _ _ _ (Ended c.in-Ended.ending) own_fits e.replies c.in-Ended.is in
     record { heard = h; reached = e.reached }

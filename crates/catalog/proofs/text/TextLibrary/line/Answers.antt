@@ -4,8 +4,8 @@ use Rattle.catalog.specs.Entries.{after, first_of}
 use Rattle.catalog.proofs.Numbering.{line_of, numbered_none, numbered_some, standing, statement_missing, statement_of}
 use Rattle.catalog.proofs.text.TextLibrary.line.Goals as goal
 
-pub returns-in-default : goal.returns-in-default
-returns-in-default c = statement_missing c.args.self.now.text.now c.args.definition c.args.statement c.in-default.ensures
+pub returns-in_default : goal.returns-in_default
+returns-in_default c = statement_missing c.args.self.now.text.now c.args.definition c.args.statement c.in_default.ensures
 
 pub returns-then-at-entry : goal.returns-then-at-entry
 returns-then-at-entry c =
@@ -27,4 +27,4 @@ returns c =
     let above = some.2 in
     statement_of text c.args.definition n found.0 found.1 ∙ some.0
     ∙ ap Some (line_of text found.0 e n st above (omega (arith, below, above))
-    ∙ sym (c.first_line.ensures ∙ ap first_of (c.past-lines.ensures ∙ ap (after n) (take_rest text e.start))))
+    ∙ sym (c.first_line.ensures ∙ ap first_of (c.past_lines.ensures ∙ ap (after n) (take_rest text e.start))))

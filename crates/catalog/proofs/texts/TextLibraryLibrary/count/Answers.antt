@@ -3,8 +3,8 @@ use mir.Facts.{Fits-below}
 use Rattle.libraries.specs.Reads.{text_lawful}
 use Rattle.catalog.proofs.texts.TextLibraryLibrary.count.Goals as goal
 
-pub overflow-cast-result : goal.overflow-cast-result
-overflow-cast-result c =
+pub overflow_cast-result : goal.overflow_cast-result
+overflow_cast-result c =
     let s = c.args.self.now in
     let few = (text_lawful s.text.now).few in
     let n = s.counted in

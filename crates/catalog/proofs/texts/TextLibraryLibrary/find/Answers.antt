@@ -18,8 +18,8 @@ use Rattle.catalog.proofs.texts.TextLibraryLibrary.find.Goals as goal
 pub definitions-init : goal.definitions-init
 definitions-init c = (omega arith, find_start (text_definitions c.args.self.now.text.now) c.args.name)
 
-pub offset-bounds-self-at : goal.offset-bounds-self-at
-offset-bounds-self-at c =
+pub offset_bounds-self-at : goal.offset_bounds-self-at
+offset_bounds-self-at c =
     let s = c.args.self.now in
     let few = (text_lawful s.text.now).few in
     let n = s.counted in
@@ -59,11 +59,11 @@ definitions-preserved c =
     let n = s.counted in
     let h : at < length D = omega (arith, l, n) in
     let back : at + 1 - 1 ≡ at = omega arith in
-    let other = ap (λ k. bytes_eq (name_of (get_or D k [])) c.args.name) (sym back) ∙ c.loop_line.invariant.1 c.loop-line-test.false in
+    let other = ap (λ k. bytes_eq (name_of (get_or D k [])) c.args.name) (sym back) ∙ c.loop-line.invariant.1 c.loop-line-test.false in
     (omega (arith, l), find_skip D c.args.name at _ h other c.definitions.invariant.1)
 
-pub overflow-cast-result : goal.overflow-cast-result
-overflow-cast-result c =
+pub overflow_cast-result : goal.overflow_cast-result
+overflow_cast-result c =
     let s = c.args.self.now in
     let few = (text_lawful s.text.now).few in
     let n = s.counted in
@@ -82,16 +82,16 @@ loop-line-preserved c =
     let h : at < length D = omega (arith, l, n) in
     let e = get_or s.entries at nowhere in
     let st = standing s.text.now (get_or D at []) e (s.placed at l) in
-    let read = c.padded-name.result in
-    let read_is = c.padded-name.ensures ∙ ap padded (c.operation.ensures ∙ ap operation_of c.first_line.ensures) in
+    let read = c.padded_name.result in
+    let read_is = c.padded_name.ensures ∙ ap padded (c.operation.ensures ∙ ap operation_of c.first_line.ensures) in
     let same = same_from_decides c.eq.result (bytes_eq read name) (slice_eq-Decides Decides-eqb read name c.eq.result c.eq.ensures) (bytes_eq-Decides read name) in
     let back : at + 1 - 1 ≡ at = omega arith in
-    let there = λ (one : c.loop_line.line ≡ 1).
-    same_there D at s.text.now e name c.loop_line.rest.now read c.loop_line.line c.eq.result (text_lawful s.text.now) h st one c.loop_line.invariant.0 read_is same in
+    let there = λ (one : c.loop-line.line ≡ 1).
+    same_there D at s.text.now e name c.loop-line.rest.now read c.loop-line.line c.eq.result (text_lawful s.text.now) h st one c.loop-line.invariant.0 read_is same in
     let up_to_lem = c.loop-line-test.true in (
-      c.past-lines-rest.ensures ∙ ap past c.loop_line.invariant.0 ∙ after_one c.loop_line.line (drop e.start s.text.now),
-      λ past-it. let one : c.loop_line.line ≡ 1 = omega (arith, past-it, up_to_lem) in
-          ap (λ k. bytes_eq (name_of (get_or D k [])) name) back ∙ there one ∙ ap (λ z. z && c.eq.result) (sym (eq-eqb c.loop_line.line 1 one)) ∙ c.if-line-eq.false,
+      c.past_lines-rest.ensures ∙ ap past c.loop-line.invariant.0 ∙ after_one c.loop-line.line (drop e.start s.text.now),
+      λ past-it. let one : c.loop-line.line ≡ 1 = omega (arith, past-it, up_to_lem) in
+          ap (λ k. bytes_eq (name_of (get_or D k [])) name) back ∙ there one ∙ ap (λ z. z && c.eq.result) (sym (eq-eqb c.loop-line.line 1 one)) ∙ c.if-line-eq.false,
     )
 
 pub returns-then-at-self : goal.returns-then-at-self
@@ -114,9 +114,9 @@ returns-then-line-eq c =
     let h : at < length D = omega (arith, l, n) in
     let e = get_or s.entries at nowhere in
     let st = standing s.text.now (get_or D at []) e (s.placed at l) in
-    let read = c.padded-name.result in
-    let read_is = c.padded-name.ensures ∙ ap padded (c.operation.ensures ∙ ap operation_of c.first_line.ensures) in
+    let read = c.padded_name.result in
+    let read_is = c.padded_name.ensures ∙ ap padded (c.operation.ensures ∙ ap operation_of c.first_line.ensures) in
     let same = same_from_decides c.eq.result (bytes_eq read name) (slice_eq-Decides Decides-eqb read name c.eq.result c.eq.ensures) (bytes_eq-Decides read name) in
-    let both = and_parts (eqb c.loop_line.line 1) c.eq.result c.if-line-eq.true in
-    let there = same_there D at s.text.now e name c.loop_line.rest.now read c.loop_line.line c.eq.result (text_lawful s.text.now) h st (eqb-true c.loop_line.line 1 both.0) c.loop_line.invariant.0 read_is same in
+    let both = and_parts (eqb c.loop-line.line 1) c.eq.result c.if-line-eq.true in
+    let there = same_there D at s.text.now e name c.loop-line.rest.now read c.loop-line.line c.eq.result (text_lawful s.text.now) h st (eqb-true c.loop-line.line 1 both.0) c.loop-line.invariant.0 read_is same in
     find_hit D name at _ h (there ∙ both.1) c.definitions.invariant.1

@@ -6,8 +6,8 @@ use Rattle.libraries.proofs.Lawfully.{definition_lawful, definition_short}
 use Rattle.catalog.proofs.Numbering.{length_missing, length_of, standing}
 use Rattle.catalog.proofs.texts.TextLibraryLibrary.length.Goals as goal
 
-pub overflow-cast-result : goal.overflow-cast-result
-overflow-cast-result c =
+pub overflow_cast-result : goal.overflow_cast-result
+overflow_cast-result c =
     let text = c.args.self.now.text.now in
     let found = c.in-Some.ensures in
     let long = (standing text found.0 c.in-Some.entry found.2).long in

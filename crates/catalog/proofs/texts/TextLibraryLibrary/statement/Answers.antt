@@ -6,8 +6,8 @@ use Rattle.libraries.specs.Definitions.{text_definitions}
 use Rattle.libraries.proofs.Lawfully.{statement_fits}
 use Rattle.catalog.proofs.texts.TextLibraryLibrary.statement.Goals as goal
 
-pub put-text-requires : goal.put-text-requires
-put-text-requires c =
+pub put_text-requires : goal.put_text-requires
+put_text-requires c =
     let text = c.args.self.now.text.now in
     let t = c.in-Some.line.now in
     let fit = statement_fits (text_definitions text) c.args.definition.0 c.args.statement.0 t (text_lawful text) c.in-Some.ensures in

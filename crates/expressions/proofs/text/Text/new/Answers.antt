@@ -5,4 +5,4 @@ use Rattle.expressions.proofs.text.Text.new.Goals as goal
 pub returns : goal.returns
 returns c =
     let t = c.args.text.now in
-    ap (take (length t)) c.write-front.ensures ∙ take_at t _ _ refl
+    ap (take (length t)) c.write_front.ensures ∙ take_at t _ _ refl

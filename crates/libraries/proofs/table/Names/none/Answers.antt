@@ -2,5 +2,5 @@ use Rattle.std.proofs.Common.{ℕ, List, arith}
 use Rattle.std.proofs.lemmas.List.{length-replicate}
 use Rattle.libraries.proofs.table.Names.none.Goals as goal
 
-pub invariant-of-result : goal.invariant-of-result
-invariant-of-result g c = (omega arith, (length-replicate {A = List ℕ} g.row.N _, tt))
+pub invariant_of-result : goal.invariant_of-result
+invariant_of-result g c = (omega arith, (length-replicate {A = List ℕ} g.row.N _, tt))

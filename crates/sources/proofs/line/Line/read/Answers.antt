@@ -1,22 +1,22 @@
-use Rattle.std.proofs.Common.{◌≡◌, ℕ, ◌≤◌, true, length, take, replicate, sym, ap, ◌∙◌, arith, rules}
+use Rattle.std.proofs.Common.{◌≡◌, ◌≤◌, length, take, sym, ap, ◌∙◌, arith, rules}
 use Rattle.lines.specs.Characters.{characters}
 use Rattle.sources.specs.Lines.{filled}
 use Rattle.sources.proofs.Filling.{filled_is, take_filled}
 use Rattle.sources.proofs.line.Line.read.Goals as goal
 
-pub invariant-of-result : goal.invariant-of-result
-invariant-of-result c =
+pub invariant_of-result : goal.invariant_of-result
+invariant_of-result c =
     let t = c.args.text.now in
     let fits : length t ≤ 80 = omega arith in
     let whole : c.overwrite.new.bytes ≡ filled t = c.overwrite.ensures ∙ filled_is t fits in
     let front : take (length t) c.overwrite.new.bytes ≡ t = ap (take (length t)) whole ∙ take_filled t fits in
-    (fits, (ap characters front ∙ sym c.if-not-all-characters.ensures, (whole ∙ ap filled (sym front), tt)))
+    record { fits = fits; clean = ap characters front ∙ sym c.if-not-all_characters.ensures; whole = whole ∙ ap filled (sym front) }
 
 pub returns : goal.returns
 returns c =
     let t = c.args.text.now in
     let fits : length t ≤ 80 = omega arith in
-    let clean = c.if-not-all-characters.ensures in
+    let clean = c.if-not-all_characters.ensures in
     let whole : c.overwrite.new.bytes ≡ filled t = c.overwrite.ensures ∙ filled_is t fits in
     let front : take (length t) c.overwrite.new.bytes ≡ t = ap (take (length t)) whole ∙ take_filled t fits in
     (search rules, front)

@@ -9,4 +9,4 @@ returns-then-grant-eq0 c =
     record { hears = step_none s.told s.taken c.args.grant s.rest.now none (omega arith); reached = refl }
 
 pub returns : goal.returns
-returns c = record { hears = c.take-line.ensures.hears c.args.grant (omega arith); reached = c.take-line.ensures.reached }
+returns c = record { hears = c.take_line.ensures.hears c.args.grant (omega arith); reached = c.take_line.ensures.reached }
