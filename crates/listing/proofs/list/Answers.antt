@@ -2,8 +2,8 @@ use Rattle.std.proofs.Common.{◌+◌, ◌<◌, vec_items, arith, rules}
 use Rattle.listing.proofs.Progress.{loop_line, loop_wait, loop_falls, some_line, some_wait, more_lines}
 use Rattle.listing.proofs.list.Goals as goal
 
-pub overflow_add_lines : goal.overflow_add_lines
-overflow_add_lines g c =
+pub overflow_add-lines : goal.overflow_add-lines
+overflow_add-lines g c =
     let s = g.S.Source in
     let e = c.in-Ok.ensures in
     let m = s.meaning (s.kept c.loop-hearing.source) in
@@ -25,7 +25,7 @@ loop-hearing-preserved-in-Got g c =
     let m = s.meaning (s.kept c.loop-hearing.source) in
     let h = c.in-Ok.hearing in
     loop_line s.meaning s.tick s.paced (s.meaning (s.kept c.args.source.now)) (s.kept c.loop-hearing.source) (s.kept c.ask.new.source) (vec_items c.loop-hearing.out) (vec_items c.print_line.new.out) c.loop-hearing.lines c.loop-hearing.steps h.spent c.from-steps.result 1000000 h.heard c.in-Got.line
-    c.loop-hearing.invariant e.heard.1 c.in-Got.is e.reached c.in_ok-print_line.ensures c.from-steps.ensures
+    c.loop-hearing.invariant e.heard.1 c.in-Got.is e.reached c.in_ok-print_line-in-Got.ensures c.from-steps.ensures
 
 pub loop-hearing-smaller : goal.loop-hearing-smaller
 loop-hearing-smaller g c =

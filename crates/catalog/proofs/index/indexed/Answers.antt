@@ -29,4 +29,4 @@ loop-rest-preserved c =
 pub invariant_of-result : goal.invariant_of-result
 invariant_of-result c =
     let done = indexed_done c.args.text.now c.loop-rest.entries c.loop-rest.count c.loop-rest.rest.now c.requires c.loop-rest.invariant c.loop-rest-test.false in
-    (done.whole, (done.counted, (done.placed, tt)))
+    record { whole = done.whole; counted = done.counted; placed = done.placed }

@@ -5,4 +5,8 @@ use Rattle.catalog.specs.Entries.{nowhere}
 use Rattle.catalog.proofs.texts.nothing_in.Goals as goal
 
 pub invariant_of-result : goal.invariant_of-result
-invariant_of-result c = (length-replicate 255 nowhere, (ap length (sym (refused_none c.args.text.now c.requires.0 c.requires.1)), (λ i h. absurd (omega (arith, h)), tt)))
+invariant_of-result c = record {
+      whole = length-replicate 255 nowhere;
+      counted = ap length (sym (refused_none c.args.text.now c.requires.0 c.requires.1));
+      placed = λ i h. absurd (omega (arith, h));
+    }

@@ -6,8 +6,8 @@ pub returns-in_err-len : goal.returns-in_err-len
 returns-in_err-len c =
     λ t h. still_lost c.args.bytes.now _ c.args.text.now t c.args.held c.from_residual.result c.in_err-len.was c.from_residual.ensures h
 
-pub returns-then-len-gt-LONGEST-FIELD : goal.returns-then-len-gt-LONGEST-FIELD
-returns-then-len-gt-LONGEST-FIELD c =
+pub returns-then-len-gt-LONGEST_FIELD : goal.returns-then-len-gt-LONGEST_FIELD
+returns-then-len-gt-LONGEST_FIELD c =
     let over : 255 < c.in_ok-len.len + length c.args.text.now = grind arith in
     λ t h. now_lost c.args.bytes.now c.args.bytes.now c.args.text.now t c.args.held c.in_ok-len.len c.in_ok-len.was over h
 

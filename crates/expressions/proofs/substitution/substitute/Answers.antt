@@ -43,10 +43,10 @@ loop-at-preserved g c =
     elim c.match-text_given.branch [
       | in-Some w ↦
           let n : length w.append-held.new.bytes ≡ 255 = w.append-held.auto.bytes ∙ c.loop-at.invariant.size in
-          come_as _ _ _ _ _ _ _ _ _ w.bytes_is w.held-is w.unknown-is
+          come_as _ _ _ _ _ _ _ _ _ w.bytes-is w.held-is w.unknown-is
           (come_known _ c.args.field.now c.loop-at.bytes w.append-held.new.bytes w.bytes.result.now c.loop-at.at c.loop-at.held w.append-held.result c.loop-at.unknown c.in_ok-reading.reading e w.in-Some.ensures.0 (w.bytes.ensures.text ∙ w.in-Some.ensures.1) w.append-held.ensures n c.loop-at.invariant)
       | in-None w ↦
-          come_as _ _ _ _ _ _ _ _ _ w.bytes_is w.held-is w.unknown-is
+          come_as _ _ _ _ _ _ _ _ _ w.bytes-is w.held-is w.unknown-is
           (come_unknown _ c.args.field.now c.loop-at.bytes c.loop-at.at c.loop-at.held c.loop-at.unknown c.in_ok-reading.reading e w.in-None.ensures c.loop-at.invariant)
     ]
 
