@@ -1,11 +1,10 @@
 -- The words of a tree that stands are read as they are written: what follows digits or a name is no part of them.
-use Rattle.std.proofs.Common.{◌≡◌, ℕ, suc, Bool, true, false, cond, not, ◌&&◌, ltb, List, [], ◌∷◌, ◌++◌, sym, refl, ap, ◌∙◌, subst, append_assoc, arith}
+use Rattle.std.proofs.Common.{◌≡◌, ℕ, suc, Bool, true, false, cond, not, ◌&&◌, ltb, List, [], ◌∷◌, ◌++◌, sym, refl, ap, ◌∙◌, append_assoc}
 use Rattle.expressions.specs.declared.level.Op.{Op}
 use Rattle.expressions.specs.declared.level.Op.TheVariants.{Plus, Minus, Times, Over}
-use Rattle.expressions.specs.Classes.{digits}
 use Rattle.expressions.specs.Joins.{join_of, lawful_of, PartsOf}
-use Rattle.expressions.specs.Pieces.{goes_on, named}
-use Rattle.expressions.specs.Trees.{Tree, number, name, signed, applied, group, Word, operator, open', close, words_of, word_written, word_fits, op_byte, digit_first, additive, Shape, as_sum, as_lead, as_product, as_factor, takes_sign, takes_sum, takes_product, left_place, stands, Writes}
+use Rattle.expressions.specs.Pieces.{goes_on}
+use Rattle.expressions.specs.Trees.{Tree, number, name, signed, applied, group, Word, operator, close, words_of, word_written, word_fits, op_byte, digit_first, additive, Shape, as_sum, as_product, as_factor, takes_sign, takes_sum, takes_product, left_place, stands, Writes}
 use Rattle.expressions.proofs.Naming.{both, and_true}
 
 -- bytes that go on with no digits and no name

@@ -1,11 +1,11 @@
 -- Pieces one after the other: what is there is read, and only so.
-use Rattle.std.proofs.Common.{◌≡◌, ℕ, suc, ◌+◌, ◌<◌, ◌≤◌, Bool, true, false, cond, not, ◌&&◌, ◌||◌, eqb, leb, List, [], ◌∷◌, ◌++◌, length, take, drop, Some, None, Option, sym, refl, ap, ◌∙◌, subst, ap₂, append_assoc, arith}
+use Rattle.std.proofs.Common.{◌≡◌, ℕ, ◌<◌, Bool, true, false, cond, not, ◌&&◌, eqb, leb, List, [], ◌∷◌, ◌++◌, length, take, drop, Some, None, sym, refl, ap, ◌∙◌, subst, ap₂, append_assoc, arith}
 use Rattle.std.proofs.lemmas.List.{take_at, drop_at}
 use Rattle.std.proofs.lemmas.Bool.Decides.{nat_tests}
-use Rattle.expressions.specs.Classes.{letter, digit, letter_or_digit, every}
+use Rattle.expressions.specs.Classes.{letter_or_digit, every}
 use Rattle.expressions.specs.Pieces.{Piece, plain, percent, colons, symbol, joined, piece_written, begins, single, letter_first, goes_on, named, fits, Reads, OneReading}
 use Rattle.expressions.specs.Firsts.{name_length, symbol_of, after_percent, first}
-use Rattle.expressions.proofs.Naming.{both, and_true, not_true, name_is, Found, first_sound}
+use Rattle.expressions.proofs.Naming.{both, and_true, not_true, name_is, first_sound}
 use Rattle.expressions.proofs.Joining.{FoundPart, Reader, Come, come_next, one_join}
 
 letter_is_no_percent : (cs rest : List ℕ) → letter_first cs ≡ true → (begins 37 (cs ++ rest) ≡ false) × (letter_first (cs ++ rest) ≡ true)

@@ -1,5 +1,5 @@
 -- The value of a tree whose symbols are known is a number, or lost for what its evaluation met.
-use Rattle.std.proofs.Common.{◌≡◌, ℕ, Bool, true, false, cond, ◌&&◌, leb, List, [], ◌∷◌, ◌++◌, length, ℤ, pos, ◌+ℤ◌, ◌-ℤ◌, ◌*ℤ◌, neg_ℤ, Some, None, Ok, Err, Option, Result, sym, refl, ap, ◌∙◌, subst, arith}
+use Rattle.std.proofs.Common.{◌≡◌, ℕ, Bool, true, false, cond, ◌&&◌, leb, List, [], ◌∷◌, ◌++◌, length, ℤ, pos, ◌+ℤ◌, ◌-ℤ◌, ◌*ℤ◌, neg_ℤ, Some, None, Ok, Err, Option, sym, refl, ap, ◌∙◌, subst, arith}
 use lib.Signed.{quot_z}
 use Rattle.expressions.specs.declared.flaws.Flaw.{Flaw}
 use Rattle.expressions.specs.declared.flaws.Flaw.TheVariants.{NoForm, UnknownSymbol, NotDigits, OutOfRange, ZeroDivisor}
@@ -9,7 +9,7 @@ use Rattle.expressions.specs.declared.symbol.Symbol.{Symbol}
 use Rattle.expressions.specs.declared.symbol.Symbol.TheVariants.{Parameter, Arithmetic, Bit, Characters, Call}
 use Rattle.expressions.specs.declared.value.Value.{Value}
 use Rattle.expressions.specs.declared.value.Value.TheVariants.{Whole, Lost}
-use Rattle.expressions.specs.Arithmetic.{in_range, fitted, found_value, symbol_value, known_value, is_zero, divided, whole_signed, whole_applied, value_signed, applied_to, value_applied, arithmetic, Known, Answers}
+use Rattle.expressions.specs.Arithmetic.{in_range, fitted, found_value, known_value, is_zero, divided, value_signed, value_applied, arithmetic, Answers}
 use Rattle.expressions.specs.Classes.{digits}
 use Rattle.expressions.specs.Numbers.{number_of, ranged, value_of}
 use Rattle.expressions.specs.Pieces.{Table, is_known, name_of}

@@ -1,21 +1,18 @@
 -- A walk over words keeps them: its levels are parts of trees that stand.
-use Rattle.std.proofs.Common.{◌≡◌, ℕ, suc, ◌+◌, ◌<◌, ◌≤◌, Bool, true, false, cond, not, ◌&&◌, ltb, List, [], ◌∷◌, ◌++◌, map, length, Some, None, Option, sym, refl, ap, ◌∙◌, subst, ap₂, append_assoc, arith}
-use Rattle.std.proofs.lemmas.List.{append-nil, length-map}
+use Rattle.std.proofs.Common.{◌≡◌, ℕ, suc, Bool, true, false, cond, ◌&&◌, ltb, List, [], ◌∷◌, ◌++◌, length, Some, None, Option, sym, refl, ap, ◌∙◌, subst, ap₂, append_assoc, arith}
+use Rattle.std.proofs.lemmas.List.{append-nil}
 use Rattle.expressions.specs.declared.level.Op.{Op}
 use Rattle.expressions.specs.declared.level.Op.TheVariants.{Plus, Minus, Times, Over}
 use Rattle.expressions.specs.declared.level.Waiting.{Waiting}
 use Rattle.expressions.specs.declared.level.Waiting.TheVariants.{Nothing, Left}
 use Rattle.expressions.specs.declared.level.Level.{Level}
-use Rattle.expressions.specs.declared.level.Token.{Token}
-use Rattle.expressions.specs.declared.level.Token.TheVariants.{Factor, Operator, Open, Close}
 use Rattle.expressions.specs.Classes.{digits}
-use Rattle.expressions.specs.Kinds.{Operations}
-use Rattle.expressions.specs.Pieces.{named, name_of, Table}
-use Rattle.expressions.specs.Trees.{Tree, number, name, signed, applied, group, Word, numeral, variable, operator, open', close, words_of, additive, Shape, as_sum, as_lead, as_product, as_factor, takes_sign, takes_sum, takes_product, left_place, stands, digit_first, value_in}
-use Rattle.expressions.specs.Walks.{Walker, walker_of, join_with, sign_with, level_of, fresh_level, is_fresh, is_nothing, no_sign, Stage, stage_of, factored, wanting, closing, following, operated_level, step_at, step_of, token_in}
+use Rattle.expressions.specs.Pieces.{named}
+use Rattle.expressions.specs.Trees.{Tree, number, name, signed, applied, group, Word, numeral, variable, operator, open', close, words_of, additive, Shape, as_sum, as_lead, as_product, as_factor, stands, digit_first}
+use Rattle.expressions.specs.Walks.{join_with, sign_with, level_of, fresh_level, is_fresh, is_nothing, no_sign, Stage, stage_of, factored, closing, operated_level, step_at, step_of}
 use Rattle.expressions.proofs.Naming.{both, and_true}
 use Rattle.expressions.proofs.Naming.{both, and_true}
-use Rattle.expressions.proofs.Parsing.{tree_walker, tree_token, and_then, runs, start}
+use Rattle.expressions.proofs.Parsing.{tree_walker, tree_token, start}
 
 no : {X : Type 0} → false ≡ true → X
 no e = absurd (let z : ◌≡◌ {A = ℕ} 0 1 = cc in omega arith)

@@ -1,20 +1,18 @@
 -- The steps of substitution.
-use Rattle.std.proofs.Common.{◌≡◌, ℕ, suc, ◌+◌, ◌<◌, ◌≤◌, Bool, true, false, cond, not, ◌&&◌, eqb, leb, List, [], ◌∷◌, ◌++◌, length, get_or, take, drop, Some, None, Ok, Err, Option, Result, sym, refl, ap, ◌∙◌, subst, ap₂, append_assoc, arith, length-append, length-drop}
+use Rattle.std.proofs.Common.{◌≡◌, ℕ, ◌+◌, ◌<◌, ◌≤◌, Bool, true, false, cond, not, ◌&&◌, eqb, leb, List, [], ◌∷◌, ◌++◌, length, get_or, take, drop, Some, None, Ok, Err, Option, Result, sym, refl, ap, ◌∙◌, subst, ap₂, append_assoc, arith, length-append, length-drop}
 use Rattle.std.proofs.lemmas.List.{append-nil, length-take-le}
 use Rattle.std.proofs.lemmas.Bool.Decides.{nat_tests}
 use Rattle.lines.proofs.Scans.{first_within}
-use Rattle.expressions.specs.declared.classes.Class.{Class}
 use Rattle.expressions.specs.declared.classes.Class.TheVariants.{Variable, Sequence, Colon, Apostrophe, Plain}
 use Rattle.expressions.specs.declared.flaws.Flaw.{Flaw}
 use Rattle.expressions.specs.declared.flaws.Flaw.TheVariants.{NoForm, UnknownSymbol}
-use Rattle.expressions.specs.declared.piece.Filled.{Filled}
 use Rattle.expressions.specs.declared.piece.Filled.TheVariants.{Length, TooLong}
 use Rattle.expressions.specs.declared.piece.Gives.{Gives}
 use Rattle.expressions.specs.declared.piece.Gives.TheVariants.{Byte, Named}
 use Rattle.expressions.specs.declared.piece.Reading.{Reading}
 use Rattle.expressions.specs.declared.symbol.Symbol.{Symbol}
 use Rattle.expressions.specs.Classes.{class_of, letter_or_digit}
-use Rattle.expressions.specs.Pieces.{Piece, plain, percent, colons, symbol, joined, piece_written, begins, single, letter_first, Reads, name_of, gives_of, Table, shown_if, is_known, given_text, given_known, text_of_all, all_known, Refused, Substituted}
+use Rattle.expressions.specs.Pieces.{Piece, plain, percent, colons, symbol, joined, piece_written, begins, single, letter_first, name_of, gives_of, Table, shown_if, is_known, given_text, given_known, text_of_all, all_known, Refused, Substituted}
 use Rattle.expressions.specs.Firsts.{name_length, symbol_of, after_percent, first, reading_of, Held}
 use Rattle.expressions.proofs.Naming.{and_true, first_sound}
 use Rattle.expressions.proofs.Joining.{come_start, come_more, come_all}

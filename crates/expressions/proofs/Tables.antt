@@ -1,14 +1,13 @@
 -- Levels that wait in a table: one more, and one less.
-use Rattle.std.proofs.Common.{◌≡◌, ℕ, ◌+◌, ◌<◌, ◌≤◌, Bool, true, false, cond, ltb, List, [], ◌∷◌, ◌++◌, reverse, length, take, set, Some, None, Ok, Err, Option, Result, sym, refl, ap, ◌∙◌, subst, ap₂, arith}
+use Rattle.std.proofs.Common.{◌≡◌, ℕ, ◌+◌, ◌≤◌, true, false, cond, ltb, List, [], ◌∷◌, reverse, length, take, set, Some, None, Ok, Err, Result, sym, ap, ◌∙◌, ap₂, arith}
 use Rattle.std.proofs.lemmas.List.{length-reverse, length-take-le, take_more_set, reverse-append}
 use Rattle.std.proofs.lemmas.Bool.Decides.{nat_tests}
 use Rattle.expressions.specs.declared.flaws.Flaw.{Flaw}
 use Rattle.expressions.specs.declared.level.Level.{Level}
-use Rattle.expressions.specs.declared.level.Token.{Token}
-use Rattle.expressions.specs.declared.level.Token.TheVariants.{Factor, Operator, Open, Close}
+use Rattle.expressions.specs.declared.level.Token.TheVariants.{Open, Close}
 use Rattle.expressions.specs.declared.level.Place.{Place}
 use Rattle.expressions.specs.Kinds.{Operations}
-use Rattle.expressions.specs.Walks.{Walker, walker_of, join_with, stage_of, fresh_level, step_at, step_of, closing, factored, piled, stage_in, place_of, factor_place, Opened, Closed, Stepped}
+use Rattle.expressions.specs.Walks.{Walker, walker_of, join_with, stage_of, fresh_level, step_at, closing, piled, stage_in, Opened, Closed, Stepped}
 
 length_piled : {K : Type 0} (n : ℕ) (rows : List (Level K)) → n ≤ length rows → length (piled n rows) ≡ n
 length_piled n rows h = length-reverse (take n rows) ∙ length-take-le n rows h

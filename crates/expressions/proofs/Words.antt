@@ -1,21 +1,16 @@
 -- The first word of an expression: what is read is there, and what is there is read.
-use Rattle.std.proofs.Common.{◌≡◌, ℕ, suc, ◌+◌, ◌<◌, ◌≤◌, Bool, true, false, cond, not, ◌&&◌, ◌||◌, eqb, leb, List, [], ◌∷◌, ◌++◌, length, get_or, take, drop, Some, None, Ok, Err, Option, Result, sym, refl, ap, ◌∙◌, subst, ap₂, append_assoc, arith, length-append}
+use Rattle.std.proofs.Common.{◌≡◌, ℕ, suc, ◌<◌, ◌≤◌, Bool, true, false, cond, not, ◌&&◌, eqb, leb, List, [], ◌∷◌, ◌++◌, length, get_or, take, drop, Some, None, Ok, Option, sym, refl, ap, ◌∙◌, subst, ap₂, arith}
 use Rattle.std.proofs.lemmas.List.{length-take-le, take-append-drop, take_at, drop_at}
 use Rattle.std.proofs.lemmas.Bool.Decides.{nat_tests}
-use Rattle.lines.specs.Fields.{first_by}
 use Rattle.lines.proofs.Scans.{first_within}
-use Rattle.expressions.specs.declared.flaws.Flaw.{Flaw}
-use Rattle.expressions.specs.declared.level.Op.{Op}
 use Rattle.expressions.specs.declared.level.Op.TheVariants.{Plus, Minus, Times, Over}
-use Rattle.expressions.specs.declared.level.Token.{Token}
-use Rattle.expressions.specs.declared.level.Token.TheVariants.{Factor, Operator, Open, Close}
-use Rattle.expressions.specs.declared.level.WordRead.{WordRead}
-use Rattle.expressions.specs.Classes.{letter, digit, letter_or_digit, every, digits}
+use Rattle.expressions.specs.declared.level.Token.TheVariants.{Factor}
+use Rattle.expressions.specs.Classes.{digit, letter_or_digit, every, digits}
 use Rattle.expressions.specs.Firsts.{name_length}
 use Rattle.expressions.specs.Kinds.{Operations}
 use Rattle.expressions.specs.Pieces.{letter_first, goes_on, named, Table}
-use Rattle.expressions.specs.Trees.{Word, numeral, variable, operator, open', close, word_written, word_fits, digit_first, op_byte, word_known}
-use Rattle.expressions.specs.Walks.{digits_length, variable_at, mark_at, first_word_of, token_in}
+use Rattle.expressions.specs.Trees.{Word, numeral, variable, operator, open', close, word_written, word_fits, digit_first}
+use Rattle.expressions.specs.Walks.{digits_length, variable_at, mark_at, first_word_of}
 use Rattle.expressions.specs.Words.{read_in}
 use Rattle.expressions.proofs.Naming.{both, and_true, not_true, name_is, named_is, named_stops}
 use Rattle.expressions.proofs.Joining.{FoundPart, Reader}

@@ -1,17 +1,16 @@
 -- The steps of working an expression out.
-use Rattle.std.proofs.Common.{◌≡◌, ℕ, suc, ◌+◌, ◌<◌, ◌≤◌, Bool, true, false, cond, not, ◌&&◌, List, [], ◌∷◌, ◌++◌, map, length, take, drop, Some, None, Ok, Err, Option, Result, sym, refl, ap, ◌∙◌, subst, ap₂, append_assoc, arith, length-append, length-drop}
-use Rattle.std.proofs.lemmas.List.{append-nil, length-map, length-reverse, length-take-le}
+use Rattle.std.proofs.Common.{◌≡◌, ℕ, ◌+◌, ◌<◌, ◌≤◌, Bool, true, false, not, ◌&&◌, List, [], ◌∷◌, ◌++◌, map, length, take, drop, Some, None, Ok, Err, Option, sym, refl, ap, ◌∙◌, subst, ap₂, arith, length-append, length-drop}
+use Rattle.std.proofs.lemmas.List.{length-reverse, length-take-le}
 use Rattle.expressions.specs.declared.flaws.Flaw.{Flaw}
-use Rattle.expressions.specs.declared.flaws.Flaw.TheVariants.{NoForm, UnknownSymbol}
-use Rattle.expressions.specs.declared.level.Waiting.{Waiting}
-use Rattle.expressions.specs.declared.level.Waiting.TheVariants.{Nothing, Left}
+use Rattle.expressions.specs.declared.flaws.Flaw.TheVariants.{NoForm}
+use Rattle.expressions.specs.declared.level.Waiting.TheVariants.{Nothing}
 use Rattle.expressions.specs.declared.level.Level.{Level}
 use Rattle.expressions.specs.declared.level.Place.{Place}
 use Rattle.expressions.specs.declared.level.WordRead.{WordRead}
 use Rattle.expressions.specs.Classes.{digits}
 use Rattle.expressions.specs.Kinds.{Operations}
 use Rattle.expressions.specs.Pieces.{named, goes_on, Table}
-use Rattle.expressions.specs.Trees.{Tree, Word, numeral, variable, operator, open', close, words_of, word_written, word_fits, word_known, words_known, digit_first, as_sum, stands, value_in, Writes, OneTree, NoValue, Worked}
+use Rattle.expressions.specs.Trees.{Tree, Word, numeral, variable, operator, open', close, words_of, word_written, word_fits, word_known, words_known, digit_first, value_in, Writes, OneTree, NoValue}
 use Rattle.expressions.specs.Walks.{walker_of, join_with, level_of, fresh_level, Stage, stage_of, step_of, token_in, piled, stage_in, place_of, Stepped, Ended, first_word_of}
 use Rattle.expressions.specs.Joins.{join_of, PartsOf}
 use Rattle.expressions.specs.Words.{read_in}
@@ -20,8 +19,8 @@ use Rattle.expressions.proofs.Joining.{Come, come_start, come_more, come_all, co
 use Rattle.expressions.proofs.Words.{word_reader, word_sound}
 use Rattle.expressions.proofs.Apart.{parts_of}
 use Rattle.expressions.proofs.Parsing.{tree_walker, tree_token, and_then, runs, runs_append, runs_tree, start, sums_of, last_of, same_tree}
-use Rattle.expressions.proofs.Keeping.{Law, Kept, keeps, start_law, stage_words, word_ok, ends_in_tree}
-use Rattle.expressions.proofs.Mapping.{map_w, map_l, map_o, map_s, step_map, join_map}
+use Rattle.expressions.proofs.Keeping.{Law, keeps, start_law, stage_words, word_ok, ends_in_tree}
+use Rattle.expressions.proofs.Mapping.{map_l, map_o, map_s, step_map, join_map}
 
 none_is : {S X : Type 0} (s : S) → None ≡ Some s → X
 none_is s e = absurd (let z : ◌≡◌ {A = ℕ} 0 1 = cc in omega arith)

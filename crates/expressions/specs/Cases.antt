@@ -1,6 +1,6 @@
 -- Worked cases.
 use Rattle.std.specs.Prelude.{◌≡◌, ℕ, List, ◌++◌, drop, pos, negsuc, Some, None, Ok, Err, codes}
-use Rattle.expressions.specs.declared.flaws.Flaw.TheVariants.{NoForm, UnknownSymbol, NotDigits, OutOfRange, ZeroDivisor}
+use Rattle.expressions.specs.declared.flaws.Flaw.TheVariants.{NoForm, UnknownSymbol, OutOfRange, ZeroDivisor}
 use Rattle.expressions.specs.declared.piece.Filled.TheVariants.{Length}
 use Rattle.expressions.specs.declared.symbol.Symbol.TheVariants.{Arithmetic}
 use Rattle.expressions.specs.Arithmetic.{Answers}

@@ -1,5 +1,5 @@
 -- Which of two texts is lower.
-use Rattle.std.specs.Prelude.{ℕ, Bool, cond, List, [], ◌∷◌, length, nat_lt}
+use Rattle.std.specs.Prelude.{ℕ, cond, List, [], ◌∷◌, length, nat_lt}
 use Rattle.expressions.specs.declared.order.Order.{Order}
 use Rattle.expressions.specs.declared.order.Order.TheVariants.{Lower, Same, Higher}
 

@@ -1,13 +1,11 @@
 -- A field as pieces: how each is written, what may follow it, and the text that it becomes.
-use Rattle.std.specs.Prelude.{◌≡◌, ℕ, suc, ◌+◌, ◌<◌, ◌≤◌, Bool, true, false, cond, not, ◌&&◌, List, [], ◌∷◌, ◌++◌, length, drop, replicate, Some, None, Ok, Err, Option, Result, ◌==◌, nat_le}
-use Rattle.lines.specs.Fields.{first_by}
+use Rattle.std.specs.Prelude.{◌≡◌, ℕ, ◌<◌, ◌≤◌, Bool, true, false, not, ◌&&◌, List, [], ◌∷◌, ◌++◌, length, drop, replicate, Some, None, Ok, Err, Option, Result, ◌==◌, nat_le}
 use Rattle.expressions.specs.declared.flaws.Flaw.{Flaw}
 use Rattle.expressions.specs.declared.flaws.Flaw.TheVariants.{NoForm, UnknownSymbol, NotDigits, OutOfRange, ZeroDivisor}
 use Rattle.expressions.specs.declared.piece.Filled.{Filled}
 use Rattle.expressions.specs.declared.piece.Filled.TheVariants.{Length, TooLong}
 use Rattle.expressions.specs.declared.piece.Gives.{Gives}
 use Rattle.expressions.specs.declared.piece.Gives.TheVariants.{Byte, Named}
-use Rattle.expressions.specs.declared.piece.Reading.{Reading}
 use Rattle.expressions.specs.declared.symbol.Symbol.{Symbol}
 use Rattle.expressions.specs.Classes.{letter, letter_or_digit, every}
 use Rattle.expressions.specs.Joins.{join_of, PartsOf}

@@ -1,5 +1,5 @@
 -- A word as it is read: what it is in a kind of number, how many bytes it takes, whether its symbol is known.
-use Rattle.std.specs.Prelude.{◌≡◌, ℕ, length, Some, None, Ok, Err, Option, Result}
+use Rattle.std.specs.Prelude.{◌≡◌, length, Some, None, Ok, Err, Option, Result}
 use Rattle.expressions.specs.declared.flaws.Flaw.{Flaw}
 use Rattle.expressions.specs.declared.flaws.Flaw.TheVariants.{NoForm}
 use Rattle.expressions.specs.declared.level.WordRead.{WordRead}

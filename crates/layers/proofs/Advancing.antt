@@ -1,5 +1,5 @@
 -- What one advance of a layer does: the steps it takes are steps of the rule, and what is heard is what remained.
-use Rattle.std.proofs.Common.{◌≡◌, ℕ, zero, suc, pred, ◌+◌, ◌-◌, ◌<◌, ◌≤◌, Bool, true, false, List, [], ◌∷◌, Some, None, Option, sym, refl, ap, ◌∙◌, subst, arith}
+use Rattle.std.proofs.Common.{◌≡◌, ℕ, zero, suc, ◌+◌, ◌-◌, ◌<◌, ◌≤◌, true, false, List, [], ◌∷◌, Some, None, Option, sym, refl, ap, ◌∙◌, subst, arith}
 use Rattle.sources.specs.declared.faults.Ending.{Ending}
 use Rattle.sources.specs.declared.line.Line.{Line}
 use Rattle.sources.specs.declared.hearing.Heard.{Heard}
@@ -10,7 +10,7 @@ use Rattle.sources.proofs.Paying.{iterate_joins, paced_spend}
 use Rattle.layers.specs.declared.machine.Deed.{Deed as CodeDeed}
 use Rattle.layers.specs.declared.machine.Deed.TheVariants as code
 use Rattle.layers.specs.Rules.{Deed, onward, hands, stops, Rule, Falls}
-use Rattle.layers.specs.Engine.{delay, delay_of, and_then, stopped, by, layered, Laid, laid, meaning_of, laid_meaning, done, listening, stepping, laid_tick, Advances, Advanced, Turned, did, heard_of, ending_of}
+use Rattle.layers.specs.Engine.{delay, delay_of, stopped, by, layered, Laid, laid, laid_meaning, done, listening, stepping, laid_tick, Advances, Advanced, Turned, did, heard_of, ending_of}
 use Rattle.layers.specs.Delays.{delay_joins, hears_delayed}
 use Rattle.layers.specs.Running.{layered_busy, idle_line, idle_over}
 

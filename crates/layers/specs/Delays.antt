@@ -1,11 +1,10 @@
 -- Steps that pass before what remains goes on.
-use Rattle.std.specs.Prelude.{◌≡◌, ℕ, zero, suc, pred, ◌+◌, ◌-◌, ◌<◌, ◌≤◌, List, [], ◌∷◌, refl}
-use Rattle.std.proofs.Common.{sym, ap, ap₂, ◌∙◌, arith, zero-add, suc-add, add_assoc}
-use Rattle.sources.specs.declared.faults.Ending.{Ending}
+use Rattle.std.specs.Prelude.{◌≡◌, ℕ, suc, ◌+◌, ◌-◌, ◌<◌, ◌≤◌, List, [], ◌∷◌, refl}
+use Rattle.std.proofs.Common.{sym, ap, ◌∙◌, arith, zero-add, suc-add, add_assoc}
 use Rattle.sources.specs.declared.hearing.Heard.{Heard}
 use Rattle.sources.specs.declared.hearing.Heard.TheVariants.{Got, Waits, Over}
-use Rattle.sources.specs.Hearings.{HearsOf, text_of}
-use Rattle.sources.specs.Meaning.{Priced, Remains, remaining, pay, pay_of, pay_line, next_price, first_price}
+use Rattle.sources.specs.Hearings.{HearsOf}
+use Rattle.sources.specs.Meaning.{Priced, Remains, remaining, pay, next_price, first_price}
 use Rattle.layers.specs.Engine.{delay, delay_of}
 
 abbrev line_of : List ℕ → ℕ → Priced

@@ -1,5 +1,5 @@
 -- The END layer: the lines up to and with the first whose operation is END.
-use Rattle.std.specs.Prelude.{◌≡◌, ℕ, Bool, true, false, List, [], ◌∷◌, codes}
+use Rattle.std.specs.Prelude.{ℕ, Bool, true, false, List, [], ◌∷◌, codes}
 use Rattle.std.proofs.Common.{arith}
 use Rattle.std.specs.Str.{bytes_eq}
 use Rattle.lines.specs.Fields.{operation_of}
@@ -8,7 +8,7 @@ use Rattle.sources.specs.declared.faults.Ending.TheVariants.{End}
 use Rattle.sources.specs.Faults.{raised}
 use Rattle.sources.specs.Meaning.{Priced, Remains, remaining}
 use Rattle.layers.specs.declared.end.EndMachine.{EndMachine}
-use Rattle.layers.specs.Rules.{Deed, onward, hands, stops, Rule, Falls}
+use Rattle.layers.specs.Rules.{hands, stops, Rule, Falls}
 
 -- the operation of the line is END
 abbrev pub is_end : List ℕ → Bool

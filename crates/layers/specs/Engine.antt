@@ -2,7 +2,7 @@
 use Rattle.std.specs.Prelude.{◌≡◌, ℕ, zero, suc, ◌+◌, ◌<◌, ◌≤◌, Bool, true, false, List, [], ◌∷◌, Some, None, Option}
 use Rattle.sources.specs.declared.faults.Ending.{Ending}
 use Rattle.sources.specs.declared.hearing.Heard.{Heard}
-use Rattle.sources.specs.declared.hearing.Heard.TheVariants.{Got, Waits, Over}
+use Rattle.sources.specs.declared.hearing.Heard.TheVariants.{Got, Over}
 use Rattle.sources.specs.declared.hearing.Hearing.{Hearing}
 use Rattle.sources.specs.Hearings.{Hears, HearsOf, text_of}
 use Rattle.sources.specs.Meaning.{Priced, Remains, iterate, remaining}

@@ -1,7 +1,7 @@
 -- The check of a library text: the first no, with its number and its line.
-use Rattle.std.specs.Prelude.{ℕ, ◌+◌, Bool, true, false, cond, not, ◌&&◌, ◌||◌, List, [], ◌∷◌, ◌++◌, length, Some, None, Ok, Err, Option, Result, ◌==◌, nat_le, nat_lt}
+use Rattle.std.specs.Prelude.{ℕ, ◌+◌, Bool, true, false, cond, not, ◌&&◌, List, [], ◌∷◌, ◌++◌, length, Some, None, Ok, Err, Option, Result, ◌==◌, nat_le, nat_lt}
 use Rattle.lines.specs.Characters.{characters}
-use Rattle.lines.specs.Fields.{comment, word, operation_of, operand_of}
+use Rattle.lines.specs.Fields.{word, operation_of, operand_of}
 use Rattle.lines.specs.Kinds.{kind_of}
 use Rattle.lines.specs.Names.{padded}
 use Rattle.lines.specs.Statements.{remark}

@@ -1,5 +1,5 @@
 -- What the calls of a library answer, by its definitions.
-use Rattle.std.specs.Prelude.{ℕ, zero, suc, Bool, cond, List, [], ◌∷◌, length, Some, None, Ok, Err, Option, Result, nat_lt}
+use Rattle.std.specs.Prelude.{ℕ, zero, suc, cond, List, [], ◌∷◌, length, Some, None, Ok, Err, Option, Result, nat_lt}
 use Rattle.std.specs.Str.{bytes_eq}
 use Rattle.sources.specs.declared.faults.DefinitionNumber.{DefinitionNumber}
 use Rattle.sources.specs.Lines.{written}

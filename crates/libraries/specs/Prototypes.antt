@@ -1,7 +1,7 @@
 -- Lawful prototypes.
-use Rattle.std.specs.Prelude.{ℕ, ◌+◌, Bool, true, false, cond, not, ◌&&◌, ◌||◌, List, [], ◌∷◌, ◌++◌, length, take, drop, nat_le, nat_lt}
+use Rattle.std.specs.Prelude.{ℕ, ◌+◌, Bool, true, false, not, ◌&&◌, ◌||◌, List, [], ◌∷◌, ◌++◌, length, take, drop, nat_le, nat_lt}
 use Rattle.lines.specs.Fields.{first_at, comment, word, operand_of, operation_of}
-use Rattle.lines.specs.Division.{divided, parts_of}
+use Rattle.lines.specs.Division.{parts_of}
 use Rattle.lines.specs.Kinds.{kind_of}
 use Rattle.lines.specs.Names.{padded}
 use Rattle.lines.specs.Nesting.{closed}

@@ -1,8 +1,8 @@
 -- The check against the library that a text is: it finds no fault exactly in the lawful library texts.
-use Rattle.std.specs.Prelude.{◌≡◌, ℕ, suc, ◌+◌, ◌<◌, ◌≤◌, Bool, true, false, cond, not, ◌&&◌, ◌||◌, List, [], ◌∷◌, ◌++◌, length, Some, None, Ok, Err, Option, Result, ◌==◌, nat_le, nat_lt, refl}
+use Rattle.std.specs.Prelude.{◌≡◌, ℕ, suc, ◌+◌, ◌<◌, ◌≤◌, Bool, true, false, cond, not, ◌&&◌, List, [], ◌∷◌, ◌++◌, length, Some, None, Ok, Err, Option, Result, ◌==◌, nat_le, nat_lt, refl}
 use Rattle.std.proofs.Common.{sym, ap, ap₂, subst, ◌∙◌, true≢false, arith, leb-true, le-leb, ltb-true, lt-ltb, eqb-true, length-append}
 use Rattle.std.proofs.lemmas.Bool.{false≢true}
-use Rattle.lines.specs.Characters.{all_by, character, characters}
+use Rattle.lines.specs.Characters.{character, characters}
 use Rattle.lines.specs.Division.{parts_of}
 use Rattle.lines.specs.Fields.{comment, operand_of, operation_of, word}
 use Rattle.lines.specs.Kinds.{kind_of}

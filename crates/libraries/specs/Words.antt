@@ -1,5 +1,5 @@
 -- Words, variable symbols and macro names.
-use Rattle.std.specs.Prelude.{ℕ, Bool, true, false, ◌&&◌, List, [], ◌∷◌, length, take, codes, ◌==◌, nat_le}
+use Rattle.std.specs.Prelude.{ℕ, Bool, false, ◌&&◌, List, [], ◌∷◌, length, take, codes, ◌==◌, nat_le}
 use Rattle.std.specs.Str.{bytes_eq}
 use Rattle.lines.specs.Characters.{all_by}
 use Rattle.expressions.specs.Classes.{letter, letter_or_digit}

@@ -1,11 +1,11 @@
 -- A listing in progress: what is printed so far, and what remains.
-use Rattle.std.proofs.Common.{◌≡◌, ℕ, zero, suc, ◌+◌, ◌-◌, ◌<◌, ◌≤◌, List, [], ◌∷◌, ◌++◌, length, sym, refl, ap, ◌∙◌, subst, ap₂, append_assoc, append-nil, arith}
+use Rattle.std.proofs.Common.{◌≡◌, ℕ, ◌+◌, ◌-◌, ◌<◌, ◌≤◌, List, [], ◌∷◌, ◌++◌, length, sym, refl, ap, ◌∙◌, subst, ap₂, append_assoc, append-nil, arith}
 use Rattle.sources.specs.declared.faults.Ending.{Ending}
 use Rattle.sources.specs.declared.line.Line.{Line}
 use Rattle.sources.specs.declared.hearing.Heard.{Heard}
 use Rattle.sources.specs.declared.hearing.Heard.TheVariants.{Got, Waits, Over}
 use Rattle.sources.specs.Hearings.{HearsOf, text_of}
-use Rattle.sources.specs.Meaning.{Priced, Remains, remaining, price, first_price, next_price, spend, Paced, iterate}
+use Rattle.sources.specs.Meaning.{Priced, Remains, remaining, first_price, spend, Paced, iterate}
 use Rattle.sources.proofs.Paying.{paced_spend}
 use Rattle.piles.specs.Prices.{cost, total}
 use Rattle.piles.proofs.Sums.{spend_end, spend_short, spend_whole, total_spend}

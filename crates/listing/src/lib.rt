@@ -128,10 +128,10 @@ mod tests {
     fn sizes(rt: HostRuntime) -> Result<(), Fail> {
         let mut site = vec![in rt.alloc(); lines::BLANK; SITE_BYTES]?;
         let read = listing(rt.alloc(), site.as_slice())?;
-        assert!(rt; read.as_slice() == b"* FAULT 3 0 1 0 0\n");
+        assert!(rt; read.as_slice() == b"* FAULT 3 0 1 0 0\n".as_slice());
         site.push(lines::BLANK)?;
         let refused = listing(rt.alloc(), site.as_slice())?;
-        assert!(rt; refused.as_slice() == b"* FAULT 17 0 0 0 0\n");
+        assert!(rt; refused.as_slice() == b"* FAULT 17 0 0 0 0\n".as_slice());
         Ok(())
     }
 }

@@ -1,10 +1,9 @@
 -- What one reply says of prices.
-use Rattle.std.proofs.Common.{◌≡◌, ℕ, zero, suc, ◌+◌, ◌-◌, ◌<◌, ◌≤◌, Bool, true, false, cond, leb, ◌↔◌, List, [], ◌∷◌, ◌++◌, length, take, drop, Some, None, Ok, Err, Option, Result, sym, refl, ap, ◌∙◌, subst, arith}
+use Rattle.std.proofs.Common.{◌≡◌, ℕ, ◌+◌, ◌-◌, ◌<◌, ◌≤◌, Bool, true, false, cond, leb, ◌↔◌, List, [], ◌∷◌, length, take, drop, Some, None, Option, Result, sym, refl, ap, ◌∙◌, arith}
 use Rattle.std.proofs.lemmas.Bool.{leb-true, leb-false, le-leb, lt-leb}
 use Rattle.std.proofs.lemmas.List.{take-append-le}
 use Rattle.sources.specs.declared.answers.Answer.{Answer}
 use Rattle.sources.specs.declared.answers.Refusal.{Refusal}
-use Rattle.sources.specs.declared.answers.Told.{Told}
 use Rattle.sources.specs.declared.answers.Told.TheVariants.{Line, Held, Ended}
 use Rattle.sources.specs.declared.faults.Ending.{Ending}
 use Rattle.sources.specs.Lines.{filled, written}
@@ -12,7 +11,7 @@ use Rattle.sources.specs.Meaning.{Priced, Remains, price, first_price, next_pric
 use Rattle.sources.specs.Replies.{Turn, turning, turn_of, refusal_of, replying, reply_of, StandsIn, Lawful, spent_by}
 use Rattle.sources.proofs.Filling.{length_filled, take_filled}
 use Rattle.piles.specs.Prices.{cost, total}
-use Rattle.piles.specs.Requests.{told_lines, lines_in, EndsTold, EndsIn, HoldsTold, HoldsIn, steps_in}
+use Rattle.piles.specs.Requests.{told_lines, lines_in, EndsTold, EndsIn, HoldsTold, HoldsIn}
 use Rattle.piles.proofs.Sums.{handed_by, handed_none}
 
 pub written_front : (t old : List ℕ) → length t ≤ 80 → take (length t) (written t old) ≡ t

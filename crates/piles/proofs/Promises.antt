@@ -1,14 +1,14 @@
 -- From each request to the whole list.
-use Rattle.std.proofs.Common.{◌≡◌, ℕ, zero, suc, ◌+◌, ◌-◌, ◌<◌, ◌≤◌, ◌⊎◌, ◌↔◌, List, [], ◌∷◌, ◌++◌, length, get_or, take, drop, set, Some, None, Option, Result, sym, refl, ap, ◌∙◌, subst, ap₂, inl, inr, add-zero, add_assoc, zero-add, arith}
+use Rattle.std.proofs.Common.{◌≡◌, ℕ, ◌+◌, ◌<◌, ◌≤◌, ◌⊎◌, ◌↔◌, List, [], ◌∷◌, ◌++◌, length, get_or, take, drop, set, None, Option, Result, sym, ap, ◌∙◌, subst, ap₂, inl, inr, add-zero, add_assoc, zero-add, arith}
 use Rattle.std.proofs.lemmas.List.{take_more, take_more_set, take_all, drop_more, drop-set-lt}
 use Rattle.std.proofs.lemmas.Bool.{cases_eq}
 use Rattle.sources.specs.declared.answers.Answer.{Answer}
 use Rattle.sources.specs.declared.answers.Refusal.{Refusal}
 use Rattle.sources.specs.Meaning.{Remains, Untold, next_price, pay, spend, iterate, Paced}
-use Rattle.sources.specs.Replies.{refusal_of, reply_of, spent_by, Lawful}
+use Rattle.sources.specs.Replies.{refusal_of, reply_of}
 use Rattle.sources.proofs.Paying.{iterate_joins, paced_spend}
 use Rattle.piles.specs.declared.request.Request.{Request}
-use Rattle.piles.specs.Prices.{total, left, Longest, Begins}
+use Rattle.piles.specs.Prices.{total, left, Longest}
 use Rattle.piles.specs.Requests.{bytes_of, Served, steps_in, steps_of, steps_by, lines_in, lines_by, EndsIn, EndsBy, HoldsIn, Met, Each, Promise}
 use Rattle.piles.proofs.Sums.{handed_by, handed_none, handed_joins, left_is, total_spend, untold_spend, longest_from, longest_is}
 use Rattle.piles.proofs.Facts.{ReplyFacts, reply_facts}

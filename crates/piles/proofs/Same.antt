@@ -1,10 +1,10 @@
 -- Sources that mean the same answer the same.
-use Rattle.std.proofs.Common.{◌≡◌, ℕ, ◌+◌, List, [], ◌∷◌, Some, sym, refl, ap, ◌∙◌, subst, ap₂}
+use Rattle.std.proofs.Common.{◌≡◌, ℕ, ◌+◌, List, [], ◌∷◌, Some, sym, ap, ◌∙◌, ap₂}
 use Rattle.sources.specs.Meaning.{Remains, Paced, iterate, spend}
 use Rattle.sources.specs.Replies.{reply_of}
 use Rattle.sources.proofs.Paying.{paced_spend}
 use Rattle.piles.specs.declared.request.Request.{Request}
-use Rattle.piles.specs.Requests.{bytes_of, Served, steps_in, steps_of, Met, Each, SameRequests, SameAnswers}
+use Rattle.piles.specs.Requests.{bytes_of, Served, steps_in, steps_of, Each, SameRequests, SameAnswers}
 
 served_same : (m m' : Remains) (b b' a a' : Request) → m ≡ m' → b.grant ≡ b'.grant → bytes_of b ≡ bytes_of b' → Served m b a → Served m' b' a'
     → (a.reply ≡ a'.reply) × (bytes_of a ≡ bytes_of a')

@@ -1,6 +1,6 @@
 -- From a list of requests to any source to what is answered of its meaning.
 use Rattle.std.proofs.Common.{◌≡◌, ℕ, ◌+◌, List, [], ◌∷◌, ◌++◌, None, subst}
-use Rattle.sources.specs.Meaning.{Remains, Paced, iterate, spend}
+use Rattle.sources.specs.Meaning.{Remains, Paced}
 use Rattle.sources.proofs.Paying.{paced_spend}
 use Rattle.piles.specs.declared.request.Request.{Request}
 use Rattle.piles.specs.Requests.{Each, Served, steps_of}

@@ -1,4 +1,4 @@
-use Rattle.std.proofs.Common.{◌+◌, ◌<◌, vec_items, arith, rules}
+use Rattle.std.proofs.Common.{vec_items, arith}
 use Rattle.listing.proofs.Progress.{loop_line, loop_wait, loop_falls, some_line, some_wait, more_lines}
 use Rattle.listing.proofs.list.Goals as goal
 

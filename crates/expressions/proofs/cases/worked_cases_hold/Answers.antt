@@ -1,8 +1,8 @@
-use Rattle.std.proofs.Common.{◌≡◌, ℕ, List, [], ◌∷◌, ◌++◌, length, drop, codes, decimal, sym, refl, ap, arith}
+use Rattle.std.proofs.Common.{◌≡◌, [], ◌∷◌, ◌++◌, length, drop, codes, decimal, sym, refl, ap, arith}
 use Rattle.std.proofs.lemmas.Fmt.{decimal_digit}
 use Rattle.expressions.specs.declared.level.Op.TheVariants.{Plus, Minus, Times, Over}
 use Rattle.expressions.specs.Pieces.{plain, percent, colons, symbol, joined}
-use Rattle.expressions.specs.Trees.{Tree, number, name, signed, applied, group, numeral, operator}
+use Rattle.expressions.specs.Trees.{number, name, signed, applied, group, numeral, operator}
 use Rattle.expressions.proofs.Working.{no_tree}
 use Rattle.expressions.proofs.cases.worked_cases_hold.Goals as goal
 

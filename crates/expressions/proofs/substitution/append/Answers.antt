@@ -1,4 +1,4 @@
-use Rattle.std.proofs.Common.{◌+◌, ◌<◌, ◌≤◌, length, sym, refl, arith, rules}
+use Rattle.std.proofs.Common.{◌+◌, ◌<◌, ◌≤◌, length, refl, arith, rules}
 use Rattle.expressions.proofs.Holding.{still_lost, now_lost, still_held}
 use Rattle.expressions.proofs.substitution.append.Goals as goal
 

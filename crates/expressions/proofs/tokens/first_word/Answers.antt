@@ -1,7 +1,6 @@
-use Rattle.std.proofs.Common.{◌≡◌, ◌-◌, ◌<◌, true, get_or, take, drop, sym, ap, ◌∙◌, arith, rules}
+use Rattle.std.proofs.Common.{◌≡◌, get_or, take, sym, ap, ◌∙◌, arith}
 use native.Mathlib.Nat.{sub-zero}
 use Rattle.std.proofs.lemmas.List.{take_rest}
-use Rattle.expressions.specs.Classes.{digit}
 use Rattle.expressions.specs.Walks.{variable_at}
 use Rattle.expressions.specs.Words.{read_in}
 use Rattle.expressions.proofs.Words.{reads_numeral, reads_variable}

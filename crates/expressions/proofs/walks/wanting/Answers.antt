@@ -1,5 +1,4 @@
-use Rattle.std.proofs.Common.{sym, subst}
-use Rattle.expressions.specs.Walks.{Stepped, walker_of}
+use Rattle.expressions.specs.Walks.{walker_of}
 use Rattle.expressions.proofs.Tables.{open_step}
 use Rattle.expressions.proofs.walks.wanting.Goals as goal
 

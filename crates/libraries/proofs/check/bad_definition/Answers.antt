@@ -1,4 +1,4 @@
-use Rattle.std.proofs.Common.{◌≡◌, ◌+◌, ◌<◌, true, false, ◌&&◌, ltb, length, sym, ap, ◌∙◌, arith, length-drop, rules}
+use Rattle.std.proofs.Common.{◌+◌, length, sym, ap, ◌∙◌, arith, length-drop}
 use Rattle.sources.specs.Texts.{lines_of}
 use Rattle.libraries.specs.Checks.{read_from, read_in}
 use Rattle.libraries.specs.Readers.{reading_of}

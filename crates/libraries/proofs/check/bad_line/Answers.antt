@@ -1,4 +1,4 @@
-use Rattle.std.proofs.Common.{◌≡◌, ◌+◌, ◌<◌, true, false, ◌&&◌, ltb, length, Some, sym, ap, ◌∙◌, arith, length-drop, rules}
+use Rattle.std.proofs.Common.{◌≡◌, ◌+◌, true, false, ◌&&◌, ltb, length, Some, sym, ap, ◌∙◌, arith, length-drop}
 use Rattle.sources.specs.Texts.{lines_of}
 use Rattle.libraries.specs.Checks.{bad_from, ended, line_fits}
 use Rattle.libraries.proofs.Endings.{bad_more, bad_found, bad_none}

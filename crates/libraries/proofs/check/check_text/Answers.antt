@@ -1,4 +1,4 @@
-use Rattle.std.proofs.Common.{◌≡◌, sym, ◌∙◌}
+use Rattle.std.proofs.Common.{sym, ◌∙◌}
 use Rattle.libraries.specs.Reads.{passed_is, refused_not}
 use Rattle.libraries.proofs.check.check_text.Goals as goal
 

@@ -1,4 +1,4 @@
-use Rattle.std.proofs.Common.{◌≡◌, ℕ, length}
+use Rattle.std.proofs.Common.{◌≡◌, length}
 use Rattle.lines.specs.Division.{divided}
 use Rattle.libraries.specs.Prototypes.{all_fit}
 use Rattle.libraries.specs.Tables.{rows_of}

@@ -1,4 +1,4 @@
-use Rattle.std.proofs.Common.{◌≡◌, List, [], ◌∷◌, ◌++◌, vec_items, sym, refl, subst}
+use Rattle.std.proofs.Common.{List, [], ◌∷◌, vec_items, sym, refl, subst}
 use Rattle.std.proofs.lemmas.Slice.{pushed}
 use Rattle.piles.specs.declared.request.Request.{Request}
 use Rattle.polling.specs.Shapes.{Unmade}

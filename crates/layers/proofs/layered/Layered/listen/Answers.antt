@@ -1,4 +1,4 @@
-use Rattle.std.proofs.Common.{ℕ, subst}
+use Rattle.std.proofs.Common.{subst}
 use Rattle.sources.specs.declared.hearing.Heard.{Heard}
 use Rattle.sources.specs.declared.hearing.Heard.TheVariants.{Got, Waits, Over}
 use Rattle.sources.specs.Hearings.{HearsOf}
