@@ -1,17 +1,16 @@
 -- The first definition of a name, one definition after another.
-use Rattle.std.proofs.Common.{◌≡◌, ℕ, zero, suc, ◌+◌, ◌-◌, ◌<◌, ◌≤◌, Bool, true, false, cond, eqb, List, [], ◌∷◌, length, get_or, drop, Some, None, Option, sym, refl, ap, ◌∙◌, ap₂, arith}
+use Rattle.std.proofs.Common.{◌≡◌, ℕ, suc, ◌+◌, ◌<◌, ◌≤◌, Bool, true, false, cond, List, [], ◌∷◌, length, get_or, drop, Some, None, Option, sym, refl, ap, ◌∙◌, arith}
 use mathlib.Core.Bool.{false≢true}
 use Rattle.std.specs.Str.{bytes_eq}
 use Rattle.std.proofs.lemmas.List.{drop_all, drop_more}
-use Rattle.std.proofs.lemmas.Bool.{eq-eqb}
 use Rattle.lines.specs.Fields.{operation_of}
 use Rattle.lines.specs.Names.{padded}
 use Rattle.sources.specs.declared.faults.DefinitionNumber.{DefinitionNumber}
 use Rattle.libraries.specs.Definitions.{Definition, Lawful, lawful_definition, name_of}
-use Rattle.libraries.specs.Lookups.{found_from, found_in, numbered}
+use Rattle.libraries.specs.Lookups.{found_from, found_in}
 use Rattle.libraries.proofs.Lawfully.{definition_lawful}
 use Rattle.catalog.specs.declared.entry.Entry.{Entry}
-use Rattle.catalog.specs.Entries.{after, first_of, initial_of}
+use Rattle.catalog.specs.Entries.{after, first_of}
 use Rattle.catalog.proofs.Indexes.{bytes_is}
 use Rattle.catalog.proofs.Numbering.{item_some, line_of, Standing}
 

@@ -1,19 +1,18 @@
 -- The table of a text's definitions, an entry at a time.
-use Rattle.std.proofs.Common.{◌≡◌, ℕ, zero, suc, ◌+◌, ◌-◌, ◌<◌, ◌≤◌, Bool, true, false, cond, ◌&&◌, eqb, ltb, leb, List, [], ◌∷◌, length, get_or, take, drop, set, Some, None, Option, sym, refl, ap, ◌∙◌, subst, ap₂, arith, length-drop, length-set, length-take-le, get_or-set_other, get_or-set_same}
+use Rattle.std.proofs.Common.{◌≡◌, ℕ, suc, ◌+◌, ◌-◌, ◌<◌, ◌≤◌, Bool, true, false, cond, ◌&&◌, eqb, ltb, leb, List, [], ◌∷◌, length, get_or, take, drop, set, None, sym, refl, ap, ◌∙◌, subst, ap₂, arith, length-drop, length-set, length-take-le, get_or-set_other, get_or-set_same}
 use mathlib.Core.Bool.{false≢true}
 use Rattle.std.specs.Str.{bytes_eq}
-use Rattle.std.proofs.lemmas.Slice.Eq.{bytes_eq-Decides}
-use Rattle.std.proofs.lemmas.List.{drop_all, drop_more, nil_from_length}
+use Rattle.std.proofs.lemmas.List.{drop_more, nil_from_length}
 use Rattle.std.proofs.lemmas.Bool.{and_from, and_parts, eq-eqb, eqb-true, le-leb, ltb-true, ltb-false}
 use Rattle.lines.specs.Fields.{operation_of}
 use Rattle.lines.specs.Names.{padded}
-use Rattle.sources.specs.Texts.{first_end, lines_of}
+use Rattle.sources.specs.Texts.{lines_of}
 use Rattle.sources.proofs.Splitting.{first_line}
 use Rattle.libraries.specs.Checks.{body_kind, check_of, ends}
-use Rattle.libraries.specs.Definitions.{Definition, grouped, Lawful, name_of, text_definitions}
+use Rattle.libraries.specs.Definitions.{Definition, grouped, text_definitions}
 use Rattle.libraries.specs.Reads.{passed_some, text_lawful}
 use Rattle.catalog.specs.declared.entry.Entry.{Entry}
-use Rattle.catalog.specs.Entries.{after, definition_at, first_of, initial_of, nowhere, past, runs, same, stands}
+use Rattle.catalog.specs.Entries.{after, definition_at, first_of, initial_of, nowhere, runs, same, stands}
 use Rattle.catalog.proofs.Walks.{EndOf, end_whole, end_after, grouped_first, line_there, lines_after, runs_within}
 
 bytes_same : (x : List ℕ) → bytes_eq x x ≡ true

@@ -1,13 +1,12 @@
 -- Definitions and statements by their numbers.
-use Rattle.std.proofs.Common.{◌≡◌, ℕ, zero, suc, ◌+◌, ◌-◌, ◌<◌, ◌≤◌, Bool, true, false, ◌&&◌, ◌||◌, eqb, ltb, leb, ◌⊎◌, List, [], ◌∷◌, length, get_or, take, drop, Some, None, Ok, Err, Option, sym, refl, ap, ◌∙◌, ap₂, inl, inr, arith, get_or-drop, get_or-take}
-use mathlib.Core.Bool.{false≢true}
+use Rattle.std.proofs.Common.{◌≡◌, ℕ, zero, suc, ◌+◌, ◌-◌, ◌<◌, ◌≤◌, true, false, ◌&&◌, ◌||◌, eqb, ltb, leb, ◌⊎◌, List, [], ◌∷◌, length, get_or, drop, Some, None, Ok, Err, sym, refl, ap, ◌∙◌, inl, inr, arith, get_or-drop, get_or-take}
 use Rattle.libraries.specs.declared.refusals.LibraryRefusal.TheVariants.{Missing}
 use Rattle.std.proofs.lemmas.Bool.{and_parts, eqb-true, eqb-false, leb-true, ltb-true, ltb-false, or_cases, or_parts}
 use Rattle.sources.specs.Texts.{lines_of}
 use Rattle.libraries.specs.Definitions.{Definition, text_definitions}
 use Rattle.libraries.specs.Lookups.{item, length_in, length_or, numbered, statement_in, statement_or}
 use Rattle.catalog.specs.declared.entry.Entry.{Entry}
-use Rattle.catalog.specs.Entries.{after, definition_at, first_of, initial_of, nowhere, same, stands}
+use Rattle.catalog.specs.Entries.{after, definition_at, first_of, initial_of, same, stands}
 use Rattle.catalog.proofs.Walks.{line_after}
 use Rattle.catalog.proofs.Indexes.{same_is}
 

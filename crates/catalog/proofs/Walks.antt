@@ -1,11 +1,11 @@
 -- Walking over the lines of a text.
 use Rattle.std.proofs.Common.{◌≡◌, ℕ, zero, suc, ◌+◌, ◌-◌, ◌<◌, ◌≤◌, Bool, true, false, cond, ltb, List, [], ◌∷◌, length, get_or, take, drop, sym, refl, ap, ◌∙◌, ap₂, arith, length-drop, get_or-drop, drop-drop}
 use Rattle.std.proofs.lemmas.Bool.{ltb-true, ltb-false}
-use Rattle.std.proofs.lemmas.List.{drop_all, drop_more, nil_from_length}
+use Rattle.std.proofs.lemmas.List.{drop_all, nil_from_length}
 use Rattle.sources.specs.Texts.{first_end, lines_of}
 use Rattle.sources.proofs.Splitting.{first_line}
 use Rattle.libraries.specs.Checks.{body_kind, ends}
-use Rattle.libraries.specs.Definitions.{before, closes, Definition, grouped}
+use Rattle.libraries.specs.Definitions.{before, closes, grouped}
 use Rattle.catalog.specs.Entries.{after, first_of, past, runs}
 
 -- the lines after the first n

@@ -1,7 +1,6 @@
 -- One library behind another.
-use Rattle.std.specs.Prelude.{◌≡◌, ℕ, ◌+◌, ◌≤◌, Bool, true, false, cond, ◌&&◌, List, [], ◌∷◌, ◌++◌, length, nat_le, refl}
-use Rattle.std.proofs.Common.{ap, ◌∙◌, subst, sym, arith, leb-true, length-append}
-use Rattle.std.proofs.lemmas.Bool.{false≢true}
+use Rattle.std.specs.Prelude.{◌≡◌, ◌+◌, Bool, true, false, cond, ◌&&◌, List, [], ◌∷◌, ◌++◌, length, nat_le, refl}
+use Rattle.std.proofs.Common.{arith, leb-true, length-append}
 use Rattle.libraries.specs.Definitions.{Definition, every, Lawful, lawful_definition}
 
 -- the first list and then the second, where both make at most 255; else the first alone

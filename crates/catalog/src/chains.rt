@@ -1,5 +1,6 @@
 // What a chain answers: the first library's definitions, and then the second's where both fit.
-ghost use Rattle.std.specs.Prelude.{◌≡◌, ◌+◌, length, nat_le};
+ghost use Rattle.std.specs.Prelude.{◌≡◌, ◌+◌, length, None, nat_le};
+ghost use Rattle.libraries.specs.Lookups.{found_in};
 ghost use Rattle.catalog.specs.Chained.{chained, chained_lawful};
 
 use crate::chain::Chain;
@@ -21,6 +22,20 @@ impl<A: Library, B: Library> Chain<A, B> {
     {
         self.first.count() as usize + self.second.count() as usize <= DEFINITIONS
     }
+
+    // What the second library has of this name, if the chain has its definitions at all.
+    fn find_behind(&self, name: [u8; NAME_BYTES]) -> Option<DefinitionNumber>
+        requires { None ≡ found_in (A.Library.definitions self.now.first) name }
+        ensures { result ≡ found_in (chained (A.Library.definitions self.now.first) (B.Library.definitions self.now.second)) name }
+    {
+        if !self.fits() {
+            return None;
+        }
+        match self.second.find(name) {
+            Some(number) => Some(DefinitionNumber(self.first.count() + number.0)),
+            None => None,
+        }
+    }
 }
 
 impl<A: Library, B: Library> Library for Chain<A, B> {
@@ -29,15 +44,9 @@ impl<A: Library, B: Library> Library for Chain<A, B> {
     ghost lawful = { λ c. chained_lawful (A.Library.definitions c.first) (B.Library.definitions c.second) (A.Library.lawful c.first) (B.Library.lawful c.second) };
 
     fn find(&self, name: [u8; NAME_BYTES]) -> Option<DefinitionNumber> {
-        if let Some(number) = self.first.find(name) {
-            return Some(number);
-        }
-        if !self.fits() {
-            return None;
-        }
-        match self.second.find(name) {
-            Some(number) => Some(DefinitionNumber(self.first.count() + number.0)),
-            None => None,
+        match self.first.find(name) {
+            Some(number) => Some(number),
+            None => self.find_behind(name),
         }
     }
 

@@ -1,8 +1,7 @@
-use Rattle.std.proofs.Common.{◌≡◌, ◌<◌, ltb, length, get_or, sym, refl, ap, ◌∙◌, arith}
+use Rattle.std.proofs.Common.{ltb, length, get_or, refl, ap, ◌∙◌, arith}
 use Rattle.std.proofs.lemmas.Bool.{and_parts, ltb-true}
 use Rattle.lines.specs.Fields.{operation_of}
 use Rattle.lines.specs.Names.{padded}
-use Rattle.catalog.specs.Entries.{after}
 use Rattle.catalog.proofs.Walks.{after_length, cut_length}
 use Rattle.catalog.proofs.Indexes.{indexed_done, indexed_more}
 use Rattle.catalog.proofs.index.indexed.Goals as goal

@@ -1,6 +1,4 @@
-use Rattle.std.proofs.Common.{◌≡◌, ◌+◌, sym, ap, ◌∙◌, arith}
-use Rattle.sources.specs.Texts.{lines_of}
-use Rattle.catalog.specs.Entries.{runs}
+use Rattle.std.proofs.Common.{◌+◌, sym, ap, ◌∙◌, arith}
 use Rattle.catalog.proofs.Walks.{runs_last, runs_more, runs_none, cut_length}
 use Rattle.catalog.proofs.places.statements_in.Goals as goal
 

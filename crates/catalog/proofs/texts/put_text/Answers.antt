@@ -1,4 +1,4 @@
-use Rattle.std.proofs.Common.{◌≡◌, ◌++◌, drop, ap, ◌∙◌}
+use Rattle.std.proofs.Common.{◌++◌, drop, ap, ◌∙◌}
 use Rattle.sources.proofs.Filling.{filled_is}
 use Rattle.catalog.proofs.texts.put_text.Goals as goal
 

@@ -1,4 +1,4 @@
-use Rattle.std.proofs.Common.{◌-◌, ◌<◌, [], get_or, arith}
+use Rattle.std.proofs.Common.{◌-◌, [], get_or, arith}
 use Rattle.libraries.specs.Definitions.{text_definitions}
 use Rattle.libraries.specs.Reads.{text_lawful}
 use Rattle.catalog.proofs.Numbering.{numbered_none, numbered_some}

@@ -1,4 +1,4 @@
-use Rattle.std.proofs.Common.{◌≡◌, ◌-◌, ◌≤◌, [], length, get_or, drop, Some, sym, ap, ◌∙◌, arith}
+use Rattle.std.proofs.Common.{[], Some, sym, ap, ◌∙◌, arith}
 use Rattle.std.proofs.lemmas.List.{take_rest}
 use Rattle.catalog.specs.Entries.{after, first_of}
 use Rattle.catalog.proofs.Numbering.{line_of, numbered_none, numbered_some, standing, statement_missing, statement_of}

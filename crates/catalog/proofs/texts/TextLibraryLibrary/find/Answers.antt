@@ -1,4 +1,4 @@
-use Rattle.std.proofs.Common.{◌≡◌, ◌+◌, ◌-◌, ◌<◌, ◌≤◌, true, false, ◌&&◌, eqb, [], length, get_or, drop, sym, refl, ap, ◌∙◌, arith, rules}
+use Rattle.std.proofs.Common.{◌≡◌, ◌+◌, ◌-◌, ◌<◌, ◌≤◌, ◌&&◌, eqb, [], length, get_or, drop, sym, ap, ◌∙◌, arith}
 use mir.Facts.{Fits-below}
 use Rattle.std.specs.Str.{bytes_eq}
 use Rattle.std.proofs.lemmas.Slice.Eq.{slice_eq-Decides, bytes_eq-Decides}
@@ -9,7 +9,7 @@ use Rattle.lines.specs.Fields.{operation_of}
 use Rattle.lines.specs.Names.{padded}
 use Rattle.libraries.specs.Definitions.{name_of, text_definitions}
 use Rattle.libraries.specs.Reads.{text_lawful}
-use Rattle.catalog.specs.Entries.{after, first_of, nowhere, past}
+use Rattle.catalog.specs.Entries.{nowhere, past}
 use Rattle.catalog.proofs.Finding.{find_start, find_skip, find_hit, find_none, other_initial, same_there}
 use Rattle.catalog.proofs.Numbering.{standing}
 use Rattle.catalog.proofs.Walks.{after_one}

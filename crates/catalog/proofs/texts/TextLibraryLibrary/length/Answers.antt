@@ -1,4 +1,4 @@
-use Rattle.std.proofs.Common.{◌≡◌, ◌≤◌, length, Ok, sym, ap, ◌∙◌, arith}
+use Rattle.std.proofs.Common.{◌≤◌, Ok, sym, ap, ◌∙◌, arith}
 use mir.Facts.{Fits-below}
 use Rattle.libraries.specs.Reads.{text_lawful}
 use Rattle.libraries.specs.Definitions.{text_definitions}

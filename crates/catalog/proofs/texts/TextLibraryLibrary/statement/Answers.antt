@@ -1,4 +1,4 @@
-use Rattle.std.proofs.Common.{◌≤◌, leb, length, arith}
+use Rattle.std.proofs.Common.{leb, length, arith}
 use Rattle.std.proofs.lemmas.Bool.{and_parts, leb-true}
 use Rattle.lines.specs.Characters.{characters}
 use Rattle.libraries.specs.Reads.{text_lawful}
