@@ -2,7 +2,7 @@
 ghost use Rattle.std.specs.Prelude.{◌≡◌};
 ghost use Rattle.expressions.specs.Flaws.{flaw_number};
 
-// What is wrong. Its number is `flawNumber` of specs/Flaws.
+// What is wrong. Its number is `flaw_number` of specs/Flaws.
 #[derive(Clone, Copy)]
 pub enum Flaw {
     NoForm,

@@ -2,7 +2,7 @@
 ghost use Rattle.std.specs.Prelude.{◌≡◌};
 ghost use Rattle.libraries.specs.Lookups.{library_refusal_number};
 
-// A bad call. Its number is `libraryRefusalNumber` of specs/Lookups.
+// A bad call. Its number is `library_refusal_number` of specs/Lookups.
 #[derive(Clone, Copy)]
 pub enum LibraryRefusal {
     // the buffer has no room for a line

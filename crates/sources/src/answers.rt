@@ -4,7 +4,7 @@ ghost use Rattle.sources.specs.Faults.{refusal_number};
 
 use crate::faults::Ending;
 
-// A bad call. Its number is `refusalNumber` of specs/Faults.
+// A bad call. Its number is `refusal_number` of specs/Faults.
 #[derive(Clone, Copy)]
 pub enum Refusal {
     ShortBuffer,

@@ -5,7 +5,7 @@ ghost use Rattle.sources.specs.Faults.{cause_number, counted, raised};
 // The highest line number that a fault tells: the count stops there.
 pub const LAST_LINE: u32 = 999_999_999;
 
-// What is wrong with a file. Its number is `causeNumber` of specs/Faults.
+// What is wrong with a file. Its number is `cause_number` of specs/Faults.
 #[derive(Clone, Copy)]
 pub enum Cause {
     LineTooLong,

@@ -1,5 +1,4 @@
 use Rattle.std.proofs.Common.{◌≤◌, arith}
-use mir.Facts.{Fits-below}
 use Rattle.libraries.specs.Reads.{text_lawful}
 use Rattle.catalog.proofs.texts.TextLibraryLibrary.count.Goals as goal
 
@@ -9,4 +8,4 @@ overflow_cast-result c =
     let few = (text_lawful s.text.now).few in
     let n = s.counted in
     let m : s.count ≤ 255 = omega (arith, few, n) in
-    Fits-below {n = 255} tt m
+    omega (arith, m)

@@ -69,7 +69,7 @@ overflow_cast-result c =
     let n = s.counted in
     let l = c.if-at-self.false in
     let m : c.definitions.at + 1 ≤ 255 = omega (arith, few, n, l) in
-    Fits-below {n = 255} tt m
+    omega (arith, m)
 
 pub loop-line-preserved : goal.loop-line-preserved
 loop-line-preserved c =

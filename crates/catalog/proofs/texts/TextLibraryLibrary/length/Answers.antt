@@ -1,5 +1,4 @@
 use Rattle.std.proofs.Common.{◌≤◌, Ok, sym, ap, ◌∙◌, arith}
-use mir.Facts.{Fits-below}
 use Rattle.libraries.specs.Reads.{text_lawful}
 use Rattle.libraries.specs.Definitions.{text_definitions}
 use Rattle.libraries.proofs.Lawfully.{definition_lawful, definition_short}
@@ -13,7 +12,7 @@ overflow_cast-result c =
     let long = (standing text found.0 c.in-Some.entry found.2).long in
     let short = definition_short found.0 (definition_lawful (text_definitions text) c.args.definition.0 found.0 (text_lawful text) found.1) in
     let m : c.in-Some.entry.statements ≤ 255 = omega (arith, long, short) in
-    Fits-below {n = 255} tt m
+    omega (arith, m)
 
 pub returns-in-Some : goal.returns-in-Some
 returns-in-Some c =
