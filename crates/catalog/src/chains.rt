@@ -10,7 +10,9 @@ use sources::{DefinitionNumber, StatementNumber};
 
 // The first library, and then the second.
 pub fn chain<A: Library, B: Library>(first: A, second: B) -> Chain<A, B>
-    ensures { chained (A.Library.definitions result.first) (B.Library.definitions result.second) ≡ chained (A.Library.definitions first) (B.Library.definitions second) }
+    ensures first { A.Library.definitions result.first ≡ A.Library.definitions first }
+    ensures second { B.Library.definitions result.second ≡ B.Library.definitions second }
+    ensures definitions { chained (A.Library.definitions result.first) (B.Library.definitions result.second) ≡ chained (A.Library.definitions first) (B.Library.definitions second) }
 {
     Chain { first, second }
 }
