@@ -1,18 +1,21 @@
 -- The first definition of a name, one definition after another.
-use Rattle.std.proofs.Common.{◌≡◌, ℕ, suc, ◌+◌, ◌<◌, ◌≤◌, Bool, true, false, cond, List, [], ◌∷◌, length, get_or, drop, Some, None, Option, sym, refl, ap, ◌∙◌, arith}
-use mathlib.Core.Bool.{false≢true}
+use Rattle.std.proofs.Common.{◌≡◌, ℕ, zero, suc, ◌+◌, ◌<◌, Bool, true, false, cond, List, [], ◌∷◌, length, get_or, drop, Some, Option, sym, refl, ap, ◌∙◌, arith, get_or-drop, get_or-take, length-drop, length-take}
 use Rattle.std.specs.Str.{bytes_eq}
-use Rattle.std.proofs.lemmas.List.{drop_all, drop_more}
+use Rattle.std.proofs.lemmas.List.{drop_more, drop-drop}
+use Rattle.std.proofs.lemmas.Slice.Eq.{bytes_eq-Decides}
+use Rattle.std.proofs.lemmas.Option.{slice_get-get_or}
 use Rattle.lines.specs.Fields.{operation_of}
 use Rattle.lines.specs.Names.{padded}
+use Rattle.lines.specs.Texts.{lines_of}
 use Rattle.sources.specs.declared.faults.DefinitionNumber.{DefinitionNumber}
-use Rattle.libraries.specs.Definitions.{Definition, Lawful, lawful_definition, name_of}
+use Rattle.libraries.specs.Definitions.{Definition, lawful_definition, name_of, text_definitions}
 use Rattle.libraries.specs.Lookups.{found_from, found_in}
+use Rattle.libraries.specs.Reads.{text_lawful}
 use Rattle.libraries.proofs.Lawfully.{definition_lawful}
+use Rattle.catalog.specs.declared.text.TextLibrary.{TextLibrary}
 use Rattle.catalog.specs.declared.entry.Entry.{Entry}
-use Rattle.catalog.specs.Entries.{after, first_of}
-use Rattle.catalog.proofs.Indexes.{bytes_is}
-use Rattle.catalog.proofs.Numbering.{item_some, line_of, Standing}
+use Rattle.catalog.specs.Entries.{nowhere, stands}
+use Rattle.catalog.proofs.Numbering.{numbered_at, standing, Standing}
 
 module _ (ds : List Definition) (name : List ℕ) where
   next : (at : ℕ) → at < length ds
@@ -37,34 +40,94 @@ module _ (ds : List Definition) (name : List ℕ) where
       ap (λ k. Some (record { 0 = k })) one
       ∙ sym (next at h ∙ ap (λ z. cond z (Some (record { 0 = suc at })) (found_from (suc at) (drop (at + 1) ds) name)) same) ∙ holds
 
-  pub find_none : (at : ℕ) (all : Option DefinitionNumber) → length ds ≤ at → found_from at (drop at ds) name ≡ all → None ≡ all
-  find_none at all h holds = sym (ap (λ xs. found_from at xs name) (drop_all at ds h)) ∙ holds
-
 -- a name with another first byte is another name
 pub other_initial : (text : List ℕ) (d : Definition) (e : Entry) (name : List ℕ) → Standing text d e → (e.initial ≡ get_or name 0 0 → ⊥) → bytes_eq (name_of d) name ≡ false
 other_initial text d e name st differs = go (bytes_eq (name_of d) name) refl
   where
     go : (z : Bool) → bytes_eq (name_of d) name ≡ z → bytes_eq (name_of d) name ≡ false
     go false h = h
-    go true h = absurd (differs (sym st.initial ∙ ap (λ n. get_or n 0 0) (bytes_is (name_of d) name h)))
+    go true h = absurd (differs (sym st.initial ∙ ap (λ n. get_or n 0 0) ((bytes_eq-Decides (name_of d) name).0 h)))
+
+-- the name of a definition is in the second of these lines
+pub record NamedIn (lines : List (List ℕ)) (d : Definition) : Type 0 where
+  pub there : 1 < length lines
+  pub name : name_of d ≡ padded (operation_of (get_or lines 1 []))
 
 lawful_some : (d : Definition) → lawful_definition d ≡ true → 0 < length d
-lawful_some [] l = absurd (false≢true l)
+lawful_some [] l = cc
 lawful_some (p ∷ body) l = omega arith
 
--- the name of a definition is in the line after its MACRO line
-pub name_there : (ds : List Definition) (at : ℕ) (text : List ℕ) (e : Entry) → Lawful ds → at < length ds → Standing text (get_or ds at []) e
-    → name_of (get_or ds at []) ≡ padded (operation_of (first_of (after 1 (drop e.start text))))
-name_there ds at text e l h st =
-    let d = get_or ds at [] in
-    let some = lawful_some d (definition_lawful ds (suc at) d l (item_some ds at [] h)) in
+named_in : (text : List ℕ) (at : ℕ) (e : Entry) → at < length (text_definitions text) → Standing text (get_or (text_definitions text) at []) e
+    → NamedIn (lines_of (drop e.start text)) (get_or (text_definitions text) at [])
+named_in text at e h st =
+    let D = text_definitions text in
+    let d = get_or D at [] in
+    let L = lines_of (drop e.start text) in
+    let is = numbered_at D (at + 1) at refl ∙ slice_get-get_or D at [] h in
+    let some = lawful_some d (definition_lawful D (at + 1) d (text_lawful text) is) in
     let long = st.long in
-    ap (λ p. padded (operation_of p)) (line_of text d e 1 st (omega arith) (omega (arith, some, long)))
+    let cut = ap length st.is ∙ length-take e.statements (drop 1 L) in
+    let dropped = length-drop 1 L in
+    record {
+      there = omega (arith, some, long, cut, dropped);
+      name = ap (λ x. padded (operation_of (get_or x 0 []))) st.is ∙ ap (λ p. padded (operation_of p)) (get_or-take e.statements (drop 1 L) 0 [] (omega (arith, some, long)) ∙ get_or-drop 1 L 0 []);
+    }
 
--- the test on that line is the test on the name
-pub same_there : (ds : List Definition) (at : ℕ) (text : List ℕ) (e : Entry) (name rest read : List ℕ) (line : ℕ) (result : Bool)
-    → Lawful ds → at < length ds → Standing text (get_or ds at []) e → line ≡ 1 → rest ≡ after line (drop e.start text)
-    → read ≡ padded (operation_of (first_of rest)) → result ≡ bytes_eq read name → bytes_eq (name_of (get_or ds at [])) name ≡ result
-same_there ds at text e name rest read line result l h st one r p s =
-    ap (λ n. bytes_eq n name) (name_there ds at text e l h st ∙ ap (λ k. padded (operation_of (first_of (after k (drop e.start text))))) (sym one)
-    ∙ ap (λ x. padded (operation_of (first_of x))) (sym r) ∙ sym p) ∙ sym s
+-- a row of the table is of the definition of its place, which has its name in the line after its MACRO line
+pub record RowOf (text : List ℕ) (at : ℕ) (e : Entry) : Type 0 where
+  pub within : at < length (text_definitions text)
+  pub stands : Standing text (get_or (text_definitions text) at []) e
+  pub named : NamedIn (lines_of (drop e.start text)) (get_or (text_definitions text) at [])
+
+pub row_of : (s : TextLibrary) (rows : List Entry) → rows ≡ s.entries.items → (at : ℕ) → at < length rows → RowOf s.text.now at (get_or rows at nowhere)
+row_of s rows same at h =
+    let text = s.text.now in
+    let many = ap length same in
+    let below : at < length s.entries.items = omega (arith, h, many) in
+    let within : at < length (text_definitions text) = omega (arith, below, s.counted) in
+    let st = standing text (get_or (text_definitions text) at []) (get_or rows at nowhere) (ap (λ es. stands text (get_or (text_definitions text) at []) (get_or es at nowhere)) same ∙ s.placed at below) in
+    record { within = within; stands = st; named = named_in text at (get_or rows at nowhere) within st }
+
+-- so many of the first two lines are read, so many are not, and the name was not in them
+pub record Reading (lines : List (List ℕ)) (d : Definition) (name : List ℕ) (count more : ℕ) (left : List (List ℕ)) : Type 0 where
+  pub all : count + more ≡ 2
+  pub rest : left ≡ drop count lines
+  pub missed : 1 < count → bytes_eq (name_of d) name ≡ false
+
+pub reading_start : (lines : List (List ℕ)) (d : Definition) (name : List ℕ) (count more : ℕ) (left : List (List ℕ)) → count ≡ 0 → more ≡ 2 → left ≡ lines → Reading lines d name count more left
+reading_start lines d name count more left none two all = record {
+  all = omega (arith, none, two);
+  rest = all ∙ ap (λ k. drop k lines) (sym none);
+  missed = λ h. absurd (omega (arith, h, none));
+}
+
+module _ (lines : List (List ℕ)) (d : Definition) (name : List ℕ) (is : NamedIn lines d) (count more : ℕ) (left : List (List ℕ)) (r : Reading lines d name count more left) where
+  pub reading_end : (0 < more → left ≡ []) → bytes_eq (name_of d) name ≡ false
+  reading_end none = r.missed (go more none r.all)
+    where
+      go : (k : ℕ) → (0 < k → left ≡ []) → count + k ≡ 2 → 1 < count
+      go zero e a = omega (arith, a)
+      go (suc k) e a =
+          let l = ap length (sym r.rest ∙ e (omega arith)) in
+          let m = length-drop count lines in
+          omega (arith, l, m, is.there)
+
+  module _ (line : List ℕ) (left' : List (List ℕ)) (cut : left ≡ line ∷ left') where
+    -- the test on the second line is the test on the name
+    pub reading_name : count ≡ 1 → bytes_eq (name_of d) name ≡ bytes_eq (padded (operation_of line)) name
+    reading_name one = ap (λ n. bytes_eq n name) (is.name ∙ ap (λ t. padded (operation_of t)) here)
+      where
+        here : get_or lines 1 [] ≡ line
+        here = sym (ap (λ k. get_or (drop k lines) 0 []) one ∙ get_or-drop 1 lines 0 []) ∙ ap (λ ls. get_or ls 0 []) (sym r.rest ∙ cut)
+
+    pub reading_more : (count' more' : ℕ) → count' ≡ count + 1 → more' + 1 ≡ more → (count ≡ 1 → bytes_eq (padded (operation_of line)) name ≡ false) → Reading lines d name count' more' left'
+    reading_more count' more' on one other = record {
+      all = omega (arith, on, one, r.all);
+      rest = ap (drop 1) (sym cut ∙ r.rest) ∙ drop-drop 1 count lines ∙ ap (λ k. drop k lines) (sym on);
+      missed = λ past. let at : count ≡ 1 = omega (arith, past, on, one, r.all) in reading_name at ∙ other at;
+    }
+
+-- the test on what is read of a line is the test on its name
+pub read_is : (line word read name : List ℕ) (result : Bool) → word ≡ operation_of line → read ≡ padded word → result ≡ bytes_eq read name
+    → bytes_eq (padded (operation_of line)) name ≡ result
+read_is line word read name result w r t = sym (t ∙ ap (λ n. bytes_eq n name) (r ∙ ap padded w))

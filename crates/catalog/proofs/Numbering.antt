@@ -1,50 +1,36 @@
 -- Definitions and statements by their numbers.
-use Rattle.std.proofs.Common.{◌≡◌, ℕ, zero, suc, ◌+◌, ◌-◌, ◌<◌, ◌≤◌, true, false, ◌&&◌, ◌||◌, eqb, ltb, leb, ◌⊎◌, List, [], ◌∷◌, length, get_or, drop, Some, None, Ok, Err, sym, refl, ap, ◌∙◌, inl, inr, arith, get_or-drop, get_or-take}
+use Rattle.std.proofs.Common.{◌≡◌, ℕ, zero, suc, ◌+◌, ◌-◌, ◌<◌, ◌≤◌, true, ◌&&◌, eqb, leb, ◌⊎◌, List, [], ◌∷◌, length, get_or, drop, Some, None, Option, Ok, Err, MatchOption, sym, refl, ap, ◌∙◌, inl, inr, arith, get_or-drop, get_or-take, length-drop, length-take}
+use Rattle.std.specs.Borrow.{Bor}
+use Rattle.std.specs.List.{HoldsAt, slice_get}
+use Rattle.std.specs.Option.{option_map}
+use Rattle.std.proofs.lemmas.Option.{slice_get_past, slice_get-get_or}
 use Rattle.libraries.specs.declared.refusals.LibraryRefusal.TheVariants.{Missing}
-use Rattle.std.proofs.lemmas.Bool.{and_parts, eqb-true, eqb-false, leb-true, ltb-true, ltb-false, or_cases, or_parts}
-use Rattle.sources.specs.Texts.{lines_of}
+use Rattle.std.proofs.lemmas.Bool.{and_parts, eqb-true, leb-true}
+use Rattle.lines.specs.Texts.{lines_of}
 use Rattle.libraries.specs.Definitions.{Definition, text_definitions}
-use Rattle.libraries.specs.Lookups.{item, length_in, length_or, numbered, statement_in, statement_or}
+use Rattle.libraries.specs.Lookups.{length_in, length_or, numbered, statement_in, statement_or}
+use Rattle.libraries.specs.Reads.{text_lawful}
+use Rattle.libraries.proofs.Lawfully.{definition_lawful, definition_short}
+use Rattle.catalog.specs.declared.text.TextLibrary.{TextLibrary}
 use Rattle.catalog.specs.declared.entry.Entry.{Entry}
-use Rattle.catalog.specs.Entries.{after, definition_at, first_of, initial_of, same, stands}
-use Rattle.catalog.proofs.Walks.{line_after}
-use Rattle.catalog.proofs.Indexes.{same_is}
+use Rattle.catalog.specs.Entries.{Located, definition_at, initial_of, nowhere, same, stands}
+use Rattle.catalog.proofs.Indexes.{same_decides}
 
 module _ {A : Type 0} where
-  pub item_some : (xs : List A) (k : ℕ) (d : A) → k < length xs → item xs k ≡ Some (get_or xs k d)
-  item_some [] k d h = absurd (omega (arith, h))
-  item_some (x ∷ xs) zero d h = refl
-  item_some (x ∷ xs) (suc k) d h = item_some xs k d (omega (arith, h))
-
-  pub item_none : (xs : List A) (k : ℕ) → length xs ≤ k → item xs k ≡ None
-  item_none [] k h = refl
-  item_none (x ∷ xs) zero h = absurd (omega (arith, h))
-  item_none (x ∷ xs) (suc k) h = item_none xs k (omega (arith, h))
-
-  -- a number that is 0 or too great, and one that is not
-  pub numbered_none : (xs : List A) (n count : ℕ) → count ≡ length xs → (eqb n 0 || ltb count n) ≡ true → numbered xs n ≡ None
-  numbered_none xs zero count c e = refl
-  numbered_none xs (suc n) count c e = go (or_cases (eqb (suc n) 0) (ltb count (suc n)) e)
+  -- the one of a number is the one after so many others
+  pub numbered_at : (xs : List A) (n k : ℕ) → n ≡ k + 1 → numbered xs n ≡ slice_get xs k
+  numbered_at xs n k e = ap (numbered xs) (e ∙ one k) ∙ go xs k
     where
-      go : (eqb (suc n) 0 ≡ true) ⊎ (ltb count (suc n) ≡ true) → item xs n ≡ None
-      go (inl z) =
-          let never : suc n ≡ 0 = eqb-true (suc n) 0 z in
-          absurd (omega (arith, never))
-      go (inr l) =
-          let less = ltb-true count (suc n) l in
-          item_none xs n (omega (arith, less, c))
+      one : (j : ℕ) → j + 1 ≡ suc j
+      one j = omega arith
 
-  pub numbered_some : (xs : List A) (n count : ℕ) (d : A) → count ≡ length xs → (eqb n 0 || ltb count n) ≡ false
-      → (numbered xs n ≡ Some (get_or xs (n - 1) d)) × (n - 1 < count) × (0 < n)
-  numbered_some xs n count d c e =
-      let parts = or_parts (eqb n 0) (ltb count n) e in
-      go n (eqb-false n 0 parts.0) (ltb-false count n parts.1)
-    where
-      go : (k : ℕ) → (k ≡ 0 → ⊥) → k ≤ count → (numbered xs k ≡ Some (get_or xs (k - 1) d)) × (k - 1 < count) × (0 < k)
-      go zero z l = absurd (z refl)
-      go (suc k) z l =
-          let one : suc k - 1 ≡ k = omega arith in
-          (item_some xs k d (omega (arith, l, c)) ∙ ap (λ j. Some (get_or xs j d)) (sym one), omega (arith, l), omega arith)
+      go : (ys : List A) (j : ℕ) → numbered ys (suc j) ≡ slice_get ys j
+      go [] j = refl
+      go (y ∷ ys) zero = refl
+      go (y ∷ ys) (suc j) = go ys j
+
+  pub numbered_past : (xs : List A) (n : ℕ) → length xs < n → numbered xs n ≡ None
+  numbered_past xs n h = numbered_at xs n (n - 1) (omega (arith, h)) ∙ slice_get_past xs (n - 1) (omega (arith, h))
 
 -- what the test tells: where the definition stands
 pub record Standing (text : List ℕ) (d : Definition) (e : Entry) : Type 0 where
@@ -60,34 +46,74 @@ standing text d e h =
     let right = and_parts (eqb (length d) e.statements) (eqb (initial_of d) e.initial) halves.1 in
     record {
       inside = leb-true e.start (length text) left.0;
-      is = same_is d (definition_at text e) left.1;
+      is = (same_decides d (definition_at text e)).0 left.1;
       long = eqb-true (length d) e.statements right.0;
       initial = eqb-true (initial_of d) e.initial right.1;
     }
 
--- the statement of this number stands so many lines after the MACRO line
-pub line_of : (text : List ℕ) (d : Definition) (e : Entry) (s : ℕ) → Standing text d e → 0 < s → s ≤ e.statements
-    → get_or d (s - 1) [] ≡ first_of (after s (drop e.start text))
-line_of text d e s st some h =
-    let L = lines_of (drop e.start text) in
-    let one : 1 + (s - 1) ≡ s = omega (arith, some) in
-    ap (λ x. get_or x (s - 1) []) st.is ∙ get_or-take e.statements (drop 1 L) (s - 1) [] (omega (arith, some, h)) ∙ get_or-drop 1 L (s - 1) []
-    ∙ ap (λ k. get_or L k []) one ∙ sym (line_after s (drop e.start text))
+-- what the row of a number tells
+pub located : (s : TextLibrary) (n at : ℕ) (r : Option (Bor Entry)) → n ≡ at + 1 → MatchOption r (length s.entries.items ≤ at) (λ e. (at < length s.entries.items) × HoldsAt (λ y. e.now ≡ y) s.entries.items at)
+    → Located s.text.now n (option_map (λ e. e.now) r)
+located s n at None one past = numbered_past (text_definitions s.text.now) n (omega (arith, past, s.counted, one))
+located s n at (Some e) one row =
+    let D = text_definitions s.text.now in
+    let within = row.0 in
+    (get_or D at [], numbered_at D n at one ∙ slice_get-get_or D at [] (omega (arith, within, s.counted)), ap (stands s.text.now (get_or D at [])) (row.1 nowhere) ∙ s.placed at within)
 
+-- what a borrowed line shows
+pub shown : (r : Option (Bor (List ℕ))) (o : Option (List ℕ)) → o ≡ option_map (λ t. t.now) r → MatchOption r (o ≡ None) (λ t. o ≡ Some t.now)
+shown None o e = e
+shown (Some t) o e = e
+
+-- the statements of a definition that is found
 module _ (text : List ℕ) (n s : ℕ) where
-  pub statement_missing : numbered (text_definitions text) n ≡ None → statement_in (text_definitions text) n s ≡ None
+  statement_of : (o : Option Definition) → numbered (text_definitions text) n ≡ o → statement_in (text_definitions text) n s ≡ statement_or o s
   unfolding statement_in
-  statement_missing e = ap (λ x. statement_or x s) e
+  statement_of o e = ap (λ x. statement_or x s) e
 
-  pub statement_of : (d : Definition) → numbered (text_definitions text) n ≡ Some d → statement_in (text_definitions text) n s ≡ numbered d s
-  unfolding statement_in
-  statement_of d e = ap (λ x. statement_or x s) e
+  pub statement_missing : Located text n None → statement_in (text_definitions text) n s ≡ None
+  statement_missing none = statement_of None none
 
+  module _ (e : Entry) (found : Located text n (Some e)) (at : ℕ) (is : at ≡ s) where
+    pub statement_past : (at < 1) ⊎ (e.statements < at) → statement_in (text_definitions text) n s ≡ None
+    statement_past h = statement_of (Some found.0) found.1 ∙ go s is h
+      where
+        go : (k : ℕ) → at ≡ k → (at < 1) ⊎ (e.statements < at) → numbered found.0 k ≡ None
+        go zero q h = refl
+        go (suc k) q (inl l) = absurd (omega (arith, q, l))
+        go (suc k) q (inr l) =
+            let long = (standing text found.0 e found.2).long in
+            numbered_past found.0 (suc k) (omega (arith, q, l, long))
+
+    -- it stands so many lines after the MACRO line
+    pub statement_there : 1 ≤ at → at ≤ e.statements → statement_in (text_definitions text) n s ≡ slice_get (lines_of (drop e.start text)) at
+    statement_there some h =
+        let d = found.0 in
+        let L = lines_of (drop e.start text) in
+        let st = standing text d e found.2 in
+        let one : 1 + (at - 1) ≡ at = omega (arith, some) in
+        let long = st.long in
+        let cut = ap length st.is ∙ length-take e.statements (drop 1 L) in
+        let dropped = length-drop 1 L in
+        statement_of (Some d) found.1 ∙ numbered_at d s (at - 1) (omega (arith, some, is)) ∙ slice_get-get_or d (at - 1) [] (omega (arith, some, h, long))
+        ∙ ap (λ x. Some (get_or x (at - 1) [])) st.is ∙ ap Some (get_or-take e.statements (drop 1 L) (at - 1) [] (omega (arith, some, h)) ∙ get_or-drop 1 L (at - 1) [] ∙ ap (λ k. get_or L k []) one)
+        ∙ sym (slice_get-get_or L at [] (omega (arith, some, h, long, cut, dropped)))
+
+-- the length of a definition that is found
 module _ (text : List ℕ) (n : ℕ) where
-  pub length_missing : numbered (text_definitions text) n ≡ None → length_in (text_definitions text) n ≡ Err Missing
+  length_of : (o : Option Definition) → numbered (text_definitions text) n ≡ o → length_in (text_definitions text) n ≡ length_or o
   unfolding length_in
-  length_missing e = ap length_or e
+  length_of o e = ap length_or e
 
-  pub length_of : (d : Definition) → numbered (text_definitions text) n ≡ Some d → length_in (text_definitions text) n ≡ Ok (length d)
-  unfolding length_in
-  length_of d e = ap length_or e
+  pub length_missing : Located text n None → length_in (text_definitions text) n ≡ Err Missing
+  length_missing none = length_of None none
+
+  module _ (e : Entry) (found : Located text n (Some e)) where
+    pub length_there : length_in (text_definitions text) n ≡ Ok e.statements
+    length_there = length_of (Some found.0) found.1 ∙ ap Ok (standing text found.0 e found.2).long
+
+    pub length_short : e.statements ≤ 255
+    length_short =
+        let long = (standing text found.0 e found.2).long in
+        let short = definition_short found.0 (definition_lawful (text_definitions text) n found.0 (text_lawful text) found.1) in
+        omega (arith, long, short)

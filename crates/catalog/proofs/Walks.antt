@@ -1,29 +1,29 @@
 -- Walking over the lines of a text.
-use Rattle.std.proofs.Common.{◌≡◌, ℕ, zero, suc, ◌+◌, ◌-◌, ◌<◌, ◌≤◌, Bool, true, false, cond, ltb, List, [], ◌∷◌, length, get_or, take, drop, sym, refl, ap, ◌∙◌, ap₂, arith, length-drop, get_or-drop, drop-drop}
+use Rattle.std.proofs.Common.{◌≡◌, ℕ, zero, suc, ◌+◌, ◌-◌, ◌<◌, ◌≤◌, ◌≢◌, Bool, true, false, cond, ltb, List, [], ◌∷◌, length, get_or, take, drop, sym, refl, ap, ◌∙◌, arith, length-drop, drop-drop}
 use Rattle.std.proofs.lemmas.Bool.{ltb-true, ltb-false}
-use Rattle.std.proofs.lemmas.List.{drop_all, nil_from_length}
-use Rattle.sources.specs.Texts.{first_end, lines_of}
-use Rattle.sources.proofs.Splitting.{first_line}
+use Rattle.std.proofs.lemmas.List.{drop_all}
+use Rattle.lines.specs.Texts.{first_end, first_line, lines_of, past_line}
+use Rattle.lines.proofs.Splitting.{first_line as lines_first, lines_cut}
 use Rattle.libraries.specs.Checks.{body_kind, ends}
 use Rattle.libraries.specs.Definitions.{before, closes, grouped}
-use Rattle.catalog.specs.Entries.{after, first_of, past, runs}
+use Rattle.catalog.specs.Entries.{after, runs}
 
 -- the lines after the first n
 pub lines_after : (n : ℕ) (t : List ℕ) → lines_of (after n t) ≡ drop n (lines_of t)
 lines_after zero t = refl
-lines_after (suc n) [] = lines_after n (past []) ∙ nothing n
+lines_after (suc n) [] = lines_after n (past_line []) ∙ nothing n
   where
     nothing : (k : ℕ) → drop k (lines_of []) ≡ []
     nothing zero = refl
     nothing (suc k) = refl
-lines_after (suc n) (b ∷ bs) = lines_after n (past (b ∷ bs)) ∙ ap (drop (suc n)) (sym (first_line (b ∷ bs) (omega arith)))
+lines_after (suc n) (b ∷ bs) = lines_after n (past_line (b ∷ bs)) ∙ ap (drop (suc n)) (sym (lines_first (b ∷ bs) (omega arith)))
 
 -- what follows some lines is an end of the text
 pub after_length : (n : ℕ) (t : List ℕ) → length (after n t) ≤ length t
 after_length zero t = omega arith
 after_length (suc n) t =
     let l = length-drop (first_end t + 1) t in
-    let ih = after_length n (past t) in
+    let ih = after_length n (past_line t) in
     omega (arith, l, ih)
 
 -- r is an end of t
@@ -58,19 +58,12 @@ end_drop t r k e = record { is = go (ltb k (length r)) refl; short = omega (arit
 
 pub end_after : (n : ℕ) (t r : List ℕ) → EndOf t r → EndOf t (after n r)
 end_after zero t r e = e
-end_after (suc n) t r e = end_after n t (past r) (end_drop t r (first_end r + 1) e)
+end_after (suc n) t r e = end_after n t (past_line r) (end_drop t r (first_end r + 1) e)
 
 -- the first line of a text, nothing where there is none
-pub line_there : (t : List ℕ) → first_of t ≡ get_or (lines_of t) 0 []
+pub line_there : (t : List ℕ) → first_line t ≡ get_or (lines_of t) 0 []
 line_there [] = refl
-line_there (b ∷ bs) = sym (ap (λ ls. get_or ls 0 []) (first_line (b ∷ bs) (omega arith)))
-
--- the line after n others
-pub line_after : (n : ℕ) (t : List ℕ) → first_of (after n t) ≡ get_or (lines_of t) n []
-line_after n t =
-    let e = lines_after n t in
-    let n0 : n + 0 ≡ n = omega arith in
-    line_there (after n t) ∙ ap (λ ls. get_or ls 0 []) e ∙ get_or-drop n (lines_of t) 0 [] ∙ ap (λ k. get_or (lines_of t) k []) n0
+line_there (b ∷ bs) = sym (ap (λ ls. get_or ls 0 []) (lines_first (b ∷ bs) (omega arith)))
 
 -- a definition goes to the first MEND
 pub grouped_first : (ls : List (List ℕ)) → grouped ls true ≡ take (runs ls) ls ∷ grouped (drop (runs ls) ls) false
@@ -90,39 +83,33 @@ runs_within (t ∷ ts) = go (ends (body_kind t)) (runs_within ts)
     go true ih = omega arith
     go false ih = omega (arith, ih)
 
--- one line more of a definition
-module _ (rest part : List ℕ) (n : ℕ) (some : 0 < length rest) (end : n ≡ first_end rest) (cut : part ≡ take n rest) where
-  runs_step : runs (lines_of rest) ≡ cond (ends (body_kind part)) 1 (suc (runs (lines_of (drop (n + 1) rest))))
-  runs_step =
-      ap runs (first_line rest some ∙ ap₂ (λ t ts. t ∷ ts) (ap (λ i. take i rest) (sym end) ∙ sym cut) (ap (λ i. lines_of (drop (i + 1) rest)) (sym end)))
+-- a text with a line, cut after its first
+module _ (t line rest : List ℕ) (some : t ≢ []) (l : line ≡ first_line t) (r : rest ≡ past_line t) where
+  pub cut_lines : lines_of t ≡ line ∷ lines_of rest
+  cut_lines = lines_cut t t line rest refl some l r
 
-  pub runs_last : ends (body_kind part) ≡ true → runs (lines_of rest) ≡ 1
-  runs_last e = runs_step ∙ ap (λ z. cond z 1 (suc (runs (lines_of (drop (n + 1) rest))))) e
-
-  pub runs_more : (rest' : List ℕ) → rest' ≡ drop (n + 1) rest → ends (body_kind part) ≡ false → runs (lines_of rest) ≡ 1 + runs (lines_of rest')
-  runs_more rest' r e =
-      let one : suc (runs (lines_of (drop (n + 1) rest))) ≡ 1 + runs (lines_of rest') = ap (λ x. suc (runs (lines_of x))) (sym r) ∙ on (runs (lines_of rest')) in
-      runs_step ∙ ap (λ z. cond z 1 (suc (runs (lines_of (drop (n + 1) rest))))) e ∙ one
+  pub cut_shorter : length rest < length t
+  cut_shorter = go t some r
     where
-      on : (k : ℕ) → suc k ≡ 1 + k
-      on k = omega arith
+      go : (bs : List ℕ) → bs ≢ [] → rest ≡ past_line bs → length rest < length bs
+      go [] e q = absurd (e refl)
+      go (b ∷ bs) e q =
+          let n = ap length q ∙ length-drop (first_end (b ∷ bs) + 1) (b ∷ bs) in
+          omega (arith, n)
 
-pub runs_none : (rest : List ℕ) → length rest ≤ 0 → runs (lines_of rest) ≡ 0
-runs_none rest h = ap (λ r. runs (lines_of r)) (nil_from_length rest (omega (arith, h)))
+  -- one line more of a definition
+  pub runs_last : ends (body_kind line) ≡ true → runs (lines_of t) ≡ 1
+  runs_last e = ap runs cut_lines ∙ ap (λ z. cond z 1 (suc (runs (lines_of rest)))) e
 
-pub cut_length : (n : ℕ) (rest rest' : List ℕ) → rest' ≡ drop (n + 1) rest → 0 < length rest → length rest' < length rest
-cut_length n rest rest' r some =
-    let l = ap length r ∙ length-drop (n + 1) rest in
-    omega (arith, l, some)
+  pub runs_more : ends (body_kind line) ≡ false → runs (lines_of t) ≡ suc (runs (lines_of rest))
+  runs_more e = ap runs cut_lines ∙ ap (λ z. cond z 1 (suc (runs (lines_of rest)))) e
 
 -- one line more to go past
-pub after_more : (count i n : ℕ) (rest rest' all : List ℕ) → i < count → n ≡ first_end rest → rest' ≡ drop (n + 1) rest → after (count - i) rest ≡ all → after (count - (i + 1)) rest' ≡ all
-after_more count i n rest rest' all h e r holds =
-    let on : suc (count - (i + 1)) ≡ count - i = omega (arith, h) in
-    ap (after (count - (i + 1))) (r ∙ ap (λ k. drop (k + 1) rest) e) ∙ ap (λ k. after k rest) on ∙ holds
-
-pub after_one : (n : ℕ) (t : List ℕ) → past (after n t) ≡ after (n + 1) t
-after_one zero t = refl
-after_one (suc n) t =
-    let on : suc (n + 1) ≡ suc n + 1 = omega arith in
-    after_one n (past t) ∙ ap (λ k. after k t) on
+pub after_more : (n : ℕ) (t r rest : List ℕ) → r ≡ after n t → rest ≡ past_line r → rest ≡ after (n + 1) t
+after_more n t r rest at cut = cut ∙ ap past_line at ∙ go n t
+  where
+    go : (k : ℕ) (bs : List ℕ) → past_line (after k bs) ≡ after (k + 1) bs
+    go zero bs = refl
+    go (suc k) bs =
+        let on : suc (k + 1) ≡ suc k + 1 = omega arith in
+        go k (past_line bs) ∙ ap (λ j. after j bs) on

@@ -1,11 +1,18 @@
 -- One library behind another.
-use Rattle.std.specs.Prelude.{◌≡◌, ◌+◌, Bool, true, false, cond, ◌&&◌, List, [], ◌∷◌, ◌++◌, length, nat_le, refl}
+use Rattle.std.specs.Prelude.{◌≡◌, ℕ, ◌+◌, Bool, true, false, cond, ◌&&◌, List, [], ◌∷◌, ◌++◌, length, Some, None, Option, nat_le, refl}
 use Rattle.std.proofs.Common.{arith, leb-true, length-append}
+use Rattle.sources.specs.declared.faults.DefinitionNumber.{DefinitionNumber}
+use Rattle.libraries.specs.Lookups.{numbered}
 use Rattle.libraries.specs.Definitions.{Definition, every, Lawful, lawful_definition}
 
 -- the first list and then the second, where both make at most 255; else the first alone
 abbrev pub chained : List Definition → List Definition → List Definition
 chained xs ys = cond (nat_le (length xs + length ys) 255) (xs ++ ys) xs
+
+-- which of two libraries has the definition of a number of the chain, and under which number: none where it is the first's
+abbrev pub Behind : List Definition → List Definition → ℕ → Option DefinitionNumber → Type 0
+Behind xs ys n None = numbered (chained xs ys) n ≡ numbered xs n
+Behind xs ys n (Some own) = numbered (chained xs ys) n ≡ numbered ys own.0
 
 every_append : {A : Type 0} (p : A → Bool) (xs ys : List A) → every p xs ≡ true → every p ys ≡ true → every p (xs ++ ys) ≡ true
 every_append p [] ys f g = g

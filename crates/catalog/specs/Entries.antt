@@ -1,23 +1,17 @@
 -- Where the definitions of a text stand.
-use Rattle.std.specs.Prelude.{◌≡◌, ℕ, zero, suc, ◌+◌, Bool, true, false, cond, ◌&&◌, List, [], ◌∷◌, length, take, drop, Some, None, Option, ◌==◌, nat_le, slice_index}
+use Rattle.std.specs.Prelude.{◌≡◌, ℕ, zero, suc, Bool, true, cond, ◌&&◌, List, [], ◌∷◌, length, take, drop, Some, None, Option, ◌==◌, nat_le, slice_index}
+use lib.Pointwise.{pointwise}
 use Rattle.std.specs.Str.{bytes_eq}
-use Rattle.sources.specs.Texts.{first_end, lines_of}
+use Rattle.lines.specs.Texts.{lines_of, past_line}
 use Rattle.libraries.specs.Checks.{body_kind, ends}
 use Rattle.libraries.specs.Definitions.{Definition, name_of, text_definitions}
 use Rattle.libraries.specs.Lookups.{numbered}
 use Rattle.catalog.specs.declared.entry.Entry.{Entry}
 
--- the first line of a text, and what follows it
-abbrev pub first_of : List ℕ → List ℕ
-first_of t = take (first_end t) t
-
-abbrev pub past : List ℕ → List ℕ
-past t = drop (first_end t + 1) t
-
 -- what follows the first n lines of a text
 abbrev pub after : ℕ → List ℕ → List ℕ
 after zero t = t
-after (suc n) t = after n (past t)
+after (suc n) t = after n (past_line t)
 
 -- how many lines there are up to and with the first MEND
 abbrev pub runs : List (List ℕ) → ℕ
@@ -30,10 +24,7 @@ definition_at text e = take e.statements (drop 1 (lines_of (drop e.start text)))
 
 -- the two definitions are the same, as a test
 abbrev pub same : Definition → Definition → Bool
-same [] [] = true
-same [] (y ∷ ys) = false
-same (x ∷ xs) [] = false
-same (x ∷ xs) (y ∷ ys) = bytes_eq x y && same xs ys
+same = pointwise bytes_eq
 
 -- the first byte of a definition's name
 abbrev pub initial_of : Definition → ℕ
@@ -43,7 +34,7 @@ initial_of d = slice_index (name_of d) 0
 abbrev pub stands : List ℕ → Definition → Entry → Bool
 stands text d e = (nat_le e.start (length text) && same d (definition_at text e)) && (length d == e.statements && initial_of d == e.initial)
 
--- a row of the table that is not in use
+-- the row that is read where the table has none
 abbrev pub nowhere : Entry
 nowhere = record { start = 0; statements = 0; initial = 0 }
 

@@ -1,7 +1,7 @@
 // What a chain answers: the first library's definitions, and then the second's where both fit.
 ghost use Rattle.std.specs.Prelude.{◌≡◌, ◌+◌, length, None, nat_le};
 ghost use Rattle.libraries.specs.Lookups.{found_in};
-ghost use Rattle.catalog.specs.Chained.{chained, chained_lawful};
+ghost use Rattle.catalog.specs.Chained.{Behind, chained, chained_lawful};
 
 use crate::chain::Chain;
 use libraries::{DEFINITIONS, Library, LibraryRefusal};
@@ -22,7 +22,7 @@ impl<A: Library, B: Library> Chain<A, B> {
     pub fn fits(&self) -> bool
         ensures { result ≡ nat_le (length (A.Library.definitions self.now.first) + length (B.Library.definitions self.now.second)) 255 }
     {
-        self.first.count() as usize + self.second.count() as usize <= DEFINITIONS
+        usize::from(self.first.count()) + usize::from(self.second.count()) <= DEFINITIONS
     }
 
     // What the second library has of this name, if the chain has its definitions at all.
@@ -33,9 +33,19 @@ impl<A: Library, B: Library> Chain<A, B> {
         if !self.fits() {
             return None;
         }
-        match self.second.find(name) {
-            Some(number) => Some(DefinitionNumber(self.first.count() + number.0)),
-            None => None,
+        let number = self.second.find(name)?;
+        Some(DefinitionNumber(self.first.count() + number.0))
+    }
+
+    // The number that the second library has for a definition, if it is one of the second's.
+    fn behind(&self, definition: DefinitionNumber) -> Option<DefinitionNumber>
+        ensures { Behind (A.Library.definitions self.now.first) (B.Library.definitions self.now.second) definition.0 result }
+    {
+        let before = self.first.count();
+        if definition.0 > before && self.fits() {
+            Some(DefinitionNumber(definition.0 - before))
+        } else {
+            None
         }
     }
 }
@@ -46,10 +56,7 @@ impl<A: Library, B: Library> Library for Chain<A, B> {
     ghost lawful = { λ c. chained_lawful (A.Library.definitions c.first) (B.Library.definitions c.second) (A.Library.lawful c.first) (B.Library.lawful c.second) };
 
     fn find(&self, name: [u8; NAME_BYTES]) -> Option<DefinitionNumber> {
-        match self.first.find(name) {
-            Some(number) => Some(number),
-            None => self.find_behind(name),
-        }
+        self.first.find(name).or_else(|| self.find_behind(name))
     }
 
     fn count(&self) -> u16 {
@@ -61,11 +68,9 @@ impl<A: Library, B: Library> Library for Chain<A, B> {
     }
 
     fn length(&self, definition: DefinitionNumber) -> Result<u16, LibraryRefusal> {
-        let before = self.first.count();
-        if (definition.0 > before) & self.fits() {
-            self.second.length(DefinitionNumber(definition.0 - before))
-        } else {
-            self.first.length(definition)
+        match self.behind(definition) {
+            Some(own) => self.second.length(own),
+            None => self.first.length(definition),
         }
     }
 
@@ -75,12 +80,9 @@ impl<A: Library, B: Library> Library for Chain<A, B> {
         statement: StatementNumber,
         buffer: &mut [u8],
     ) -> Result<usize, LibraryRefusal> {
-        let before = self.first.count();
-        if (definition.0 > before) & self.fits() {
-            self.second
-                .statement(DefinitionNumber(definition.0 - before), statement, buffer)
-        } else {
-            self.first.statement(definition, statement, buffer)
+        match self.behind(definition) {
+            Some(own) => self.second.statement(own, statement, buffer),
+            None => self.first.statement(definition, statement, buffer),
         }
     }
 }

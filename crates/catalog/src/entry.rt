@@ -1,5 +1,5 @@
 // Where a definition stands in a text.
-#[derive(Clone, Copy)]
+#[derive(Clone, Copy, Debug, Default, PartialEq, Eq)]
 pub struct Entry {
     // the first byte of its MACRO line
     pub(crate) start: usize,

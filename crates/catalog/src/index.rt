@@ -5,10 +5,10 @@ ghost use Rattle.lines.specs.Names.{padded};
 ghost use Rattle.libraries.specs.Checks.{check_of};
 
 use crate::entry::Entry;
-use crate::places::{first_line, past_lines, statements_in};
+use crate::places::{first_line, statements_in};
 use crate::text::TextLibrary;
-use libraries::DEFINITIONS;
-use lines::{operation, padded_name};
+use arrayvec::ArrayVec;
+use lines::{operation, padded_name, split_line};
 
 // The first byte of the name in a prototype.
 pub(crate) fn initial_of(prototype: &[u8]) -> u8
@@ -22,27 +22,16 @@ pub(crate) fn indexed(text: &[u8]) -> TextLibrary<'_>
     requires { check_of text.now ≡ None }
     ensures { result.text.now ≡ text.now }
 {
-    let mut entries = [Entry {
-        start: 0,
-        statements: 0,
-        initial: 0,
-    }; DEFINITIONS];
-    let mut count = 0;
+    let mut entries = ArrayVec::new();
     let mut rest = text;
-    while (rest.len() > 0) & (count < DEFINITIONS) {
-        let body = past_lines(rest, 1);
-        let statements = statements_in(body);
-        entries[count] = Entry {
+    while let Some((_, body)) = split_line(rest) {
+        let (statements, behind) = statements_in(body);
+        entries.push(Entry {
             start: text.len() - rest.len(),
             statements,
             initial: initial_of(first_line(body)),
-        };
-        count += 1;
-        rest = past_lines(body, statements);
+        });
+        rest = behind;
     }
-    TextLibrary {
-        text,
-        entries,
-        count,
-    }
+    TextLibrary { text, entries }
 }

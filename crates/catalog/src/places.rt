@@ -1,43 +1,35 @@
 // Lines and definitions found by walking over a text.
 ghost use Rattle.std.specs.Prelude.{◌≡◌, ◌≤◌, length};
-ghost use Rattle.sources.specs.Texts.{lines_of};
-ghost use Rattle.catalog.specs.Entries.{after, first_of, runs};
+ghost use Rattle.lines.specs.Texts.{first_line, lines_of};
+ghost use Rattle.catalog.specs.Entries.{after, runs};
 
 use libraries::ends_definition;
-use lines::{LINE_END, after_byte, first_at, front};
+use lines::split_line;
 
-// The first line of a text.
+// The first line of a text, nothing where there is none.
 pub(crate) fn first_line(text: &[u8]) -> &[u8]
-    ensures { result.now ≡ first_of text.now }
+    ensures { result.now ≡ first_line text.now }
 {
-    front(text, first_at(text, LINE_END))
-}
-
-// What follows the first lines.
-pub(crate) fn past_lines(text: &[u8], count: usize) -> &[u8]
-    ensures { result.now ≡ after count text.now }
-{
-    let mut rest = text;
-    for _ in 0..count {
-        rest = after_byte(rest, first_at(rest, LINE_END));
+    match split_line(text) {
+        Some((line, _)) => line,
+        None => &[],
     }
-    rest
 }
 
-// How many lines there are up to and with the first MEND.
-pub(crate) fn statements_in(text: &[u8]) -> usize
-    ensures value { result ≡ runs (lines_of text.now) }
-    ensures bound { result ≤ length text.now }
+// How many lines there are up to and with the first MEND, and what follows them.
+pub(crate) fn statements_in(text: &[u8]) -> (usize, &[u8])
+    ensures value { result.0 ≡ runs (lines_of text.now) }
+    ensures bound { result.0 ≤ length text.now }
+    ensures rest { result.1.now ≡ after result.0 text.now }
 {
     let mut rest = text;
     let mut count = 0;
-    while rest.len() > 0 {
-        let end = first_at(rest, LINE_END);
+    while let Some((line, behind)) = split_line(rest) {
+        rest = behind;
         count += 1;
-        if ends_definition(front(rest, end)) {
-            return count;
+        if ends_definition(line) {
+            return (count, rest);
         }
-        rest = after_byte(rest, end);
     }
-    count
+    (count, rest)
 }

@@ -9,7 +9,7 @@ use Rattle.expressions.proofs.Naming.{both, and_true, not_true, name_is, first_s
 use Rattle.expressions.proofs.Joining.{FoundPart, Reader, Come, come_next, one_join}
 
 letter_is_no_percent : (cs rest : List ℕ) → letter_first cs ≡ true → (begins 37 (cs ++ rest) ≡ false) × (letter_first (cs ++ rest) ≡ true)
-letter_is_no_percent [] rest e = absurd (let z : ◌≡◌ {A = ℕ} 0 1 = cc in omega arith)
+letter_is_no_percent [] rest e = absurd (cc)
 letter_is_no_percent (c ∷ cs) rest e =
     let b = both (leb 65 c) (leb c 90) e in
     (grind (arith, nat_tests), e)

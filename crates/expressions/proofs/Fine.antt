@@ -1,5 +1,5 @@
 -- The value of a tree whose symbols are known is a number, or lost for what its evaluation met.
-use Rattle.std.proofs.Common.{◌≡◌, ℕ, Bool, true, false, cond, ◌&&◌, leb, List, [], ◌∷◌, ◌++◌, length, ℤ, pos, ◌+ℤ◌, ◌-ℤ◌, ◌*ℤ◌, neg_ℤ, Some, None, Ok, Err, Option, sym, refl, ap, ◌∙◌, subst, arith}
+use Rattle.std.proofs.Common.{◌≡◌, ℕ, Bool, true, false, cond, ◌&&◌, leb, List, [], ◌∷◌, ◌++◌, length, ℤ, pos, ◌+ℤ◌, ◌-ℤ◌, ◌*ℤ◌, neg_ℤ, Some, None, Ok, Err, Option, Result, sym, refl, ap, ◌∙◌, subst}
 use lib.Signed.{quot_z}
 use Rattle.expressions.specs.declared.flaws.Flaw.{Flaw}
 use Rattle.expressions.specs.declared.flaws.Flaw.TheVariants.{NoForm, UnknownSymbol, NotDigits, OutOfRange, ZeroDivisor}
@@ -7,14 +7,12 @@ use Rattle.expressions.specs.declared.level.Op.{Op}
 use Rattle.expressions.specs.declared.level.Op.TheVariants.{Plus, Minus, Times, Over}
 use Rattle.expressions.specs.declared.symbol.Symbol.{Symbol}
 use Rattle.expressions.specs.declared.symbol.Symbol.TheVariants.{Parameter, Arithmetic, Bit, Characters, Call}
-use Rattle.expressions.specs.declared.value.Value.{Value}
-use Rattle.expressions.specs.declared.value.Value.TheVariants.{Whole, Lost}
-use Rattle.expressions.specs.Arithmetic.{in_range, fitted, found_value, known_value, is_zero, divided, value_signed, value_applied, arithmetic, Answers}
+use Rattle.expressions.specs.Arithmetic.{in_range, fitted, known_value, is_zero, divided, value_signed, value_applied, arithmetic, Answers}
 use Rattle.expressions.specs.Classes.{digits}
 use Rattle.expressions.specs.Numbers.{number_of, ranged, value_of}
 use Rattle.expressions.specs.Pieces.{Table, is_known, name_of}
 use Rattle.expressions.specs.Texts.{text_of}
-use Rattle.expressions.specs.Trees.{Tree, number, name, signed, applied, group, Word, operator, close, words_of, word_known, words_known, value_in, Writes}
+use Rattle.expressions.specs.Trees.{Tree, number, name, signed, applied, group, Word, operator, close, words_of, word_known, words_known, value_in, Writes, Worked}
 use Rattle.expressions.proofs.Naming.{both}
 
 -- met by evaluation
@@ -25,60 +23,60 @@ Met NotDigits = Unit {0}
 Met OutOfRange = Unit {0}
 Met ZeroDivisor = Unit {0}
 
-abbrev FineV : Value → Type 0
-FineV (Whole z) = Unit {0}
-FineV (Lost f) = Met f
+abbrev FineV : Result ℤ Flaw → Type 0
+FineV (Ok z) = Unit {0}
+FineV (Err f) = Met f
 
 fine_fitted : (z : ℤ) → FineV (fitted z)
 fine_fitted z = go (in_range z)
   where
-    go : (b : Bool) → FineV (cond b (Whole z) (Lost OutOfRange))
+    go : (b : Bool) → FineV (cond b (Ok z) (Err OutOfRange))
     go true = tt
     go false = tt
 
-fine_ranged : (n : ℕ) → FineV (found_value (ranged n))
+fine_ranged : (n : ℕ) → FineV (ranged n)
 fine_ranged n = go (leb n 2147483647)
   where
-    go : (b : Bool) → FineV (found_value (cond b (Ok (pos n)) (Err OutOfRange)))
+    go : (b : Bool) → FineV (cond b (Ok (pos n)) (Err OutOfRange))
     go true = tt
     go false = tt
 
-fine_number : (t : List ℕ) → FineV (found_value (number_of t))
+fine_number : (t : List ℕ) → FineV (number_of t)
 fine_number t = go (digits t && (leb 1 (length t) && leb (length t) 10))
   where
-    go : (b : Bool) → FineV (found_value (cond b (ranged (value_of t)) (Err NotDigits)))
+    go : (b : Bool) → FineV (cond b (ranged (value_of t)) (Err NotDigits))
     go true = fine_ranged (value_of t)
     go false = tt
 
 fine_symbol : (o : Option Symbol) → is_known o ≡ true → FineV (known_value o)
-fine_symbol None e = absurd (let z : ◌≡◌ {A = ℕ} 0 1 = cc in omega arith)
+fine_symbol None e = absurd (cc)
 fine_symbol (Some (Parameter t)) e = fine_number (text_of t)
 fine_symbol (Some (Arithmetic z)) e = tt
 fine_symbol (Some (Bit b)) e = tt
 fine_symbol (Some (Characters t)) e = fine_number (text_of t)
 fine_symbol (Some (Call n)) e = tt
 
-fine_signed : (o : Op) (v : Value) → FineV v → FineV (value_signed o v)
-fine_signed Plus (Whole z) h = tt
-fine_signed Minus (Whole z) h = fine_fitted (neg_ℤ z)
-fine_signed Times (Whole z) h = tt
-fine_signed Over (Whole z) h = tt
-fine_signed o (Lost f) h = h
+fine_signed : (o : Op) (v : Result ℤ Flaw) → FineV v → FineV (value_signed o v)
+fine_signed Plus (Ok z) h = tt
+fine_signed Minus (Ok z) h = fine_fitted (neg_ℤ z)
+fine_signed Times (Ok z) h = tt
+fine_signed Over (Ok z) h = tt
+fine_signed o (Err f) h = h
 
 fine_divided : (a b : ℤ) → FineV (divided a b)
 fine_divided a b = go (is_zero b)
   where
-    go : (z : Bool) → FineV (cond z (Lost ZeroDivisor) (fitted (quot_z a b)))
+    go : (z : Bool) → FineV (cond z (Err ZeroDivisor) (fitted (quot_z a b)))
     go true = tt
     go false = fine_fitted (quot_z a b)
 
-fine_applied : (o : Op) (v w : Value) → FineV v → FineV w → FineV (value_applied o v w)
-fine_applied Plus (Whole a) (Whole b) h k = fine_fitted (a +ℤ b)
-fine_applied Minus (Whole a) (Whole b) h k = fine_fitted (a -ℤ b)
-fine_applied Times (Whole a) (Whole b) h k = fine_fitted (a *ℤ b)
-fine_applied Over (Whole a) (Whole b) h k = fine_divided a b
-fine_applied o (Whole a) (Lost f) h k = k
-fine_applied o (Lost f) w h k = h
+fine_applied : (o : Op) (v w : Result ℤ Flaw) → FineV v → FineV w → FineV (value_applied o v w)
+fine_applied Plus (Ok a) (Ok b) h k = fine_fitted (a +ℤ b)
+fine_applied Minus (Ok a) (Ok b) h k = fine_fitted (a -ℤ b)
+fine_applied Times (Ok a) (Ok b) h k = fine_fitted (a *ℤ b)
+fine_applied Over (Ok a) (Ok b) h k = fine_divided a b
+fine_applied o (Ok a) (Err f) h k = k
+fine_applied o (Err f) w h k = h
 
 known_parts : (σ : Table) (xs ys : List Word) → words_known σ (xs ++ ys) ≡ true → (words_known σ xs ≡ true) × (words_known σ ys ≡ true)
 known_parts σ [] ys e = (refl, e)
@@ -97,14 +95,19 @@ fine_tree σ (applied o a b) e =
 fine_tree σ (group t) e = fine_tree σ t (known_parts σ (words_of t) (close ∷ []) e).0
 
 -- a lost value is told by its flaw
-pub tells_lost : (σ : Table) (text : List ℕ) (t : Tree) (f : Flaw) → Writes 15 t text → words_known σ (words_of t) ≡ true → Lost f ≡ value_in arithmetic σ t → Answers σ text (Err f)
+tells_lost : (σ : Table) (text : List ℕ) (t : Tree) (f : Flaw) → Writes 15 t text → words_known σ (words_of t) ≡ true → Err f ≡ value_in arithmetic σ t → Answers σ text (Err f)
 tells_lost σ text t f w k e =
-    let P : Value → Type 0 = FineV in
+    let P : Result ℤ Flaw → Type 0 = FineV in
     go f (sym e) (subst P (sym e) (fine_tree σ t k))
   where
-    go : (g : Flaw) → value_in arithmetic σ t ≡ Lost g → Met g → Answers σ text (Err g)
+    go : (g : Flaw) → value_in arithmetic σ t ≡ Err g → Met g → Answers σ text (Err g)
     go NoForm h m = absurd m
     go UnknownSymbol h m = absurd m
     go NotDigits h m = (t, (w, k), h)
     go OutOfRange h m = (t, (w, k), h)
     go ZeroDivisor h m = (t, (w, k), h)
+
+-- what working out gives is what an expression answers
+pub answered : (σ : Table) (text : List ℕ) (r : Result ℤ Flaw) → Worked arithmetic σ 15 text (Ok r) → Answers σ text r
+answered σ text (Ok z) w = (w.0, (w.1, w.2), sym w.3)
+answered σ text (Err f) w = tells_lost σ text w.0 f w.1 w.2 w.3

@@ -1,32 +1,28 @@
 -- A walk over words keeps them: its levels are parts of trees that stand.
-use Rattle.std.proofs.Common.{◌≡◌, ℕ, suc, Bool, true, false, cond, ◌&&◌, ltb, List, [], ◌∷◌, ◌++◌, length, Some, None, Option, sym, refl, ap, ◌∙◌, subst, ap₂, append_assoc, arith}
+use Rattle.std.specs.Prelude.{is_none}
+use Rattle.std.proofs.Common.{◌≡◌, ℕ, suc, Bool, true, false, cond, ◌&&◌, ltb, List, [], ◌∷◌, ◌++◌, length, Some, None, Option, sym, refl, ap, ◌∙◌, subst, ap₂, append_assoc}
 use Rattle.std.proofs.lemmas.List.{append-nil}
 use Rattle.expressions.specs.declared.level.Op.{Op}
 use Rattle.expressions.specs.declared.level.Op.TheVariants.{Plus, Minus, Times, Over}
-use Rattle.expressions.specs.declared.level.Waiting.{Waiting}
-use Rattle.expressions.specs.declared.level.Waiting.TheVariants.{Nothing, Left}
+use Rattle.expressions.specs.declared.level.Left.{Left}
 use Rattle.expressions.specs.declared.level.Level.{Level}
 use Rattle.expressions.specs.Classes.{digits}
 use Rattle.expressions.specs.Pieces.{named}
 use Rattle.expressions.specs.Trees.{Tree, number, name, signed, applied, group, Word, numeral, variable, operator, open', close, words_of, additive, Shape, as_sum, as_lead, as_product, as_factor, stands, digit_first}
-use Rattle.expressions.specs.Walks.{join_with, sign_with, level_of, fresh_level, is_fresh, is_nothing, no_sign, Stage, stage_of, factored, closing, operated_level, step_at, step_of}
+use Rattle.expressions.specs.Walks.{join_with, sign_with, left_of, level_of, fresh_level, is_fresh, Stage, stage_of, factored, closing, operated_level, step_at, step_of}
 use Rattle.expressions.proofs.Naming.{both, and_true}
-use Rattle.expressions.proofs.Naming.{both, and_true}
-use Rattle.expressions.proofs.Parsing.{tree_walker, tree_token, start}
+use Rattle.expressions.proofs.Parsing.{no, tree_walker, tree_token, start}
 
-no : {X : Type 0} → false ≡ true → X
-no e = absurd (let z : ◌≡◌ {A = ℕ} 0 1 = cc in omega arith)
+pub none_is : {S X : Type 0} (s : S) → None ≡ Some s → X
+none_is s e = absurd (cc)
 
-none_is : {S X : Type 0} (s : S) → None ≡ Some s → X
-none_is s e = absurd (let z : ◌≡◌ {A = ℕ} 0 1 = cc in omega arith)
-
-some_is : {S : Type 0} (s t : S) → Some s ≡ Some t → s ≡ t
+pub some_is : {S : Type 0} (s t : S) → Some s ≡ Some t → s ≡ t
 some_is s t e = cc
 
 -- the words that a walk keeps
-abbrev wait_words : Waiting Tree → List Word
-wait_words Nothing = []
-wait_words (Left t o) = words_of t ++ (operator o ∷ [])
+abbrev wait_words : Option (Left Tree) → List Word
+wait_words None = []
+wait_words (Some l) = words_of l.value ++ (operator l.op ∷ [])
 
 abbrev sign_words : Option Op → List Word
 sign_words None = []
@@ -47,21 +43,21 @@ abbrev pub stage_words : Stage Tree → List Word
 stage_words s = waits_words s.waits ++ (level_words s.level ++ after_words s.after)
 
 -- a product may open with a sign where no sum waits for it
-abbrev lead_shape : Waiting Tree → Shape
-lead_shape Nothing = as_lead
-lead_shape (Left a o) = as_product
+abbrev lead_shape : Option (Left Tree) → Shape
+lead_shape None = as_lead
+lead_shape (Some l) = as_product
 
-abbrev LawSums : ℕ → ℕ → Waiting Tree → Type 0
-LawSums most n Nothing = Unit {0}
-LawSums most n (Left t o) = (additive o ≡ true) × (stands most n as_sum t ≡ true)
+abbrev LawSums : ℕ → ℕ → Option (Left Tree) → Type 0
+LawSums most n None = Unit {0}
+LawSums most n (Some l) = (additive l.op ≡ true) × (stands most n as_sum l.value ≡ true)
 
-abbrev LawProducts : ℕ → ℕ → Waiting Tree → Waiting Tree → Type 0
-LawProducts most n s Nothing = Unit {0}
-LawProducts most n s (Left t o) = (additive o ≡ false) × (stands most n (lead_shape s) t ≡ true)
+abbrev LawProducts : ℕ → ℕ → Option (Left Tree) → Option (Left Tree) → Type 0
+LawProducts most n s None = Unit {0}
+LawProducts most n s (Some l) = (additive l.op ≡ false) × (stands most n (lead_shape s) l.value ≡ true)
 
-abbrev LawSign : Waiting Tree → Waiting Tree → Option Op → Type 0
+abbrev LawSign : Option (Left Tree) → Option (Left Tree) → Option Op → Type 0
 LawSign s p None = Unit {0}
-LawSign s p (Some o) = (additive o ≡ true) × (s ≡ Nothing) × (p ≡ Nothing)
+LawSign s p (Some o) = (additive o ≡ true) × (s ≡ None) × (p ≡ None)
 
 pub record LawLevel (most n : ℕ) (l : Level Tree) : Type 0 where
   pub sums : LawSums most n l.sums
@@ -70,7 +66,7 @@ pub record LawLevel (most n : ℕ) (l : Level Tree) : Type 0 where
 
 abbrev LawAfter : ℕ → ℕ → Level Tree → Option Tree → Type 0
 LawAfter most n l None = Unit {0}
-LawAfter most n l (Some p) = (stands most n (lead_shape l.sums) p ≡ true) × (l.products ≡ Nothing) × (l.sign ≡ None)
+LawAfter most n l (Some p) = (stands most n (lead_shape l.sums) p ≡ true) × (l.products ≡ None) × (l.sign ≡ None)
 
 abbrev LawWaits : ℕ → List (Level Tree) → Type 0
 LawWaits most [] = Unit {0}
@@ -104,36 +100,36 @@ lead_sum most n (applied Over a b) e = e
 lead_sum most n (group t) e = e
 
 -- a sum and its last product stand as an expression, and its words are theirs
-sum_stands : (most n : ℕ) (s : Waiting Tree) (p : Tree) → LawSums most n s → stands most n (lead_shape s) p ≡ true → stands most n as_sum (join_with tree_walker s p) ≡ true
-sum_stands most n Nothing p l e = lead_sum most n p e
-sum_stands most n (Left a o) p l e =
-    ap (λ z. cond z (true && (stands most n as_sum a && stands most n as_product p)) (true && (stands most n as_lead a && stands most n as_factor p))) l.0 ∙ and_true _ _ l.1 e
+sum_stands : (most n : ℕ) (s : Option (Left Tree)) (p : Tree) → LawSums most n s → stands most n (lead_shape s) p ≡ true → stands most n as_sum (join_with tree_walker s p) ≡ true
+sum_stands most n None p l e = lead_sum most n p e
+sum_stands most n (Some w) p l e =
+    ap (λ z. cond z (true && (stands most n as_sum w.value && stands most n as_product p)) (true && (stands most n as_lead w.value && stands most n as_factor p))) l.0 ∙ and_true _ _ l.1 e
 
-sum_words : (s : Waiting Tree) (p : Tree) → wait_words s ++ words_of p ≡ words_of (join_with tree_walker s p)
-sum_words Nothing p = refl
-sum_words (Left a o) p = append_assoc (words_of a) (operator o ∷ []) (words_of p)
+sum_words : (s : Option (Left Tree)) (p : Tree) → wait_words s ++ words_of p ≡ words_of (join_with tree_walker s p)
+sum_words None p = refl
+sum_words (Some l) p = append_assoc (words_of l.value) (operator l.op ∷ []) (words_of p)
 
-times_stands : (most n : ℕ) (s : Waiting Tree) (a k : Tree) (o : Op) → additive o ≡ false → stands most n (lead_shape s) a ≡ true → stands most n as_factor k ≡ true → stands most n (lead_shape s) (applied o a k) ≡ true
-times_stands most n Nothing a k o f e g =
+times_stands : (most n : ℕ) (s : Option (Left Tree)) (a k : Tree) (o : Op) → additive o ≡ false → stands most n (lead_shape s) a ≡ true → stands most n as_factor k ≡ true → stands most n (lead_shape s) (applied o a k) ≡ true
+times_stands most n None a k o f e g =
     ap (λ z. cond z (false && (stands most n as_sum a && stands most n as_product k)) (true && (stands most n as_lead a && stands most n as_factor k))) f ∙ and_true _ _ e g
-times_stands most n (Left b q) a k o f e g =
+times_stands most n (Some l) a k o f e g =
     ap (λ z. cond z (false && (stands most n as_sum a && stands most n as_product k)) (true && (stands most n as_product a && stands most n as_factor k))) f ∙ and_true _ _ e g
 
 -- a factor on its level: the product stands, and its words are theirs
-factor_stands : (most n : ℕ) (s p : Waiting Tree) (g : Option Op) (k : Tree) → LawProducts most n s p → LawSign s p g → stands most n as_factor k ≡ true
+factor_stands : (most n : ℕ) (s p : Option (Left Tree)) (g : Option Op) (k : Tree) → LawProducts most n s p → LawSign s p g → stands most n as_factor k ≡ true
     → stands most n (lead_shape s) (join_with tree_walker p (sign_with tree_walker g k)) ≡ true
-factor_stands most n s Nothing None k lp lg e = weaken most n (lead_shape s) k e
-factor_stands most n s Nothing (Some o) k lp lg e =
-    let P : Waiting Tree → Type 0 = λ x. stands most n (lead_shape x) (signed o k) ≡ true in
+factor_stands most n s None None k lp lg e = weaken most n (lead_shape s) k e
+factor_stands most n s None (Some o) k lp lg e =
+    let P : Option (Left Tree) → Type 0 = λ x. stands most n (lead_shape x) (signed o k) ≡ true in
     subst P (sym lg.1) (and_true _ _ lg.0 e)
-factor_stands most n s (Left a o) None k lp lg e = times_stands most n s a k o lp.0 lp.1 e
-factor_stands most n s (Left a o) (Some q) k lp lg e = absurd (let h = lg.2 in let z : ◌≡◌ {A = ℕ} 0 1 = cc in omega arith)
+factor_stands most n s (Some l) None k lp lg e = times_stands most n s l.value k l.op lp.0 lp.1 e
+factor_stands most n s (Some l) (Some q) k lp lg e = absurd (cc)
 
-factor_words : (s p : Waiting Tree) (g : Option Op) (k : Tree) → LawSign s p g → (wait_words p ++ sign_words g) ++ words_of k ≡ words_of (join_with tree_walker p (sign_with tree_walker g k))
-factor_words s Nothing None k lg = refl
-factor_words s Nothing (Some o) k lg = refl
-factor_words s (Left a o) None k lg = ap (λ x. x ++ words_of k) (append-nil (words_of a ++ (operator o ∷ []))) ∙ append_assoc (words_of a) (operator o ∷ []) (words_of k)
-factor_words s (Left a o) (Some q) k lg = absurd (let h = lg.2 in let z : ◌≡◌ {A = ℕ} 0 1 = cc in omega arith)
+factor_words : (s p : Option (Left Tree)) (g : Option Op) (k : Tree) → LawSign s p g → (wait_words p ++ sign_words g) ++ words_of k ≡ words_of (join_with tree_walker p (sign_with tree_walker g k))
+factor_words s None None k lg = refl
+factor_words s None (Some o) k lg = refl
+factor_words s (Some l) None k lg = ap (λ x. x ++ words_of k) (append-nil (words_of l.value ++ (operator l.op ∷ []))) ∙ append_assoc (words_of l.value) (operator l.op ∷ []) (words_of k)
+factor_words s (Some l) (Some q) k lg = absurd (cc)
 
 factored_law : (most : ℕ) (l : Level Tree) (k : Tree) (ws : List (Level Tree)) → LawLevel most (length ws) l → LawWaits most ws → stands most (length ws) as_factor k ≡ true → Law most (factored tree_walker l k ws)
 factored_law most l k ws law waits e =
@@ -155,11 +151,11 @@ after_words_kept most n l p law =
     ap₂ (λ x y. (wait_words l.sums ++ (wait_words x ++ sign_words y)) ++ words_of p) law.1 law.2
     ∙ (ap (λ x. x ++ words_of p) (append-nil (wait_words l.sums)) ∙ sum_words l.sums p)
 
-fresh_parts : (s p : Waiting Tree) (g : Option Op) → is_nothing s && (is_nothing p && no_sign g) ≡ true → wait_words s ++ (wait_words p ++ sign_words g) ≡ []
-fresh_parts Nothing Nothing None e = refl
-fresh_parts Nothing Nothing (Some o) e = no e
-fresh_parts Nothing (Left a o) g e = no e
-fresh_parts (Left a o) p g e = no e
+fresh_parts : (s p : Option (Left Tree)) (g : Option Op) → is_none s && (is_none p && is_none g) ≡ true → wait_words s ++ (wait_words p ++ sign_words g) ≡ []
+fresh_parts None None None e = refl
+fresh_parts None None (Some o) e = no e
+fresh_parts None (Some l) g e = no e
+fresh_parts (Some l) p g e = no e
 
 -- a word that may be a factor by itself
 abbrev pub word_ok : Word → Bool
@@ -187,10 +183,10 @@ keep_factor most l k ws x s is law waits e f =
     })
 
 keep_sign : (most : ℕ) (l : Level Tree) (ws : List (Level Tree)) (o : Op) (s : Stage Tree) → LawWaits most ws
-    → cond (is_fresh l && additive o) (Some (stage_of (level_of Nothing Nothing (Some o)) None ws)) None ≡ Some s → Kept most (waits_words ws ++ (level_words l ++ [])) (operator o) s
+    → cond (is_fresh l && additive o) (Some (stage_of (level_of None None (Some o)) None ws)) None ≡ Some s → Kept most (waits_words ws ++ (level_words l ++ [])) (operator o) s
 keep_sign most l ws o s waits f = go (is_fresh l && additive o) refl f
   where
-    go : (z : Bool) → is_fresh l && additive o ≡ z → cond z (Some (stage_of (level_of Nothing Nothing (Some o)) None ws)) None ≡ Some s → Kept most (waits_words ws ++ (level_words l ++ [])) (operator o) s
+    go : (z : Bool) → is_fresh l && additive o ≡ z → cond z (Some (stage_of (level_of None None (Some o)) None ws)) None ≡ Some s → Kept most (waits_words ws ++ (level_words l ++ [])) (operator o) s
     go true e g =
         let b = both (is_fresh l) (additive o) e in
         let P : Stage Tree → Type 0 = Kept most (waits_words ws ++ (level_words l ++ [])) (operator o) in
@@ -221,7 +217,7 @@ keep_operator : (most : ℕ) (l : Level Tree) (p : Tree) (ws : List (Level Tree)
 keep_operator most l p ws o law after waits = go (additive o) refl
   where
     go : (z : Bool) → additive o ≡ z
-        → Kept most (waits_words ws ++ (level_words l ++ words_of p)) (operator o) (stage_of (cond z (level_of (Left (join_with tree_walker l.sums p) o) Nothing None) (level_of l.sums (Left p o) None)) None ws)
+        → Kept most (waits_words ws ++ (level_words l ++ words_of p)) (operator o) (stage_of (cond z (level_of (Some (left_of (join_with tree_walker l.sums p) o)) None None) (level_of l.sums (Some (left_of p o)) None)) None ws)
     go true e =
         let t = join_with tree_walker l.sums p in
         record {

@@ -1,10 +1,8 @@
-pub mod Scans
+pub mod Bytewise
 pub mod Figures
-pub mod Holding
 pub mod Naming
 pub mod Chains
 pub mod Substituting
-pub mod Tables
 pub mod Joining
 pub mod Words
 pub mod Parsing
@@ -13,4 +11,3 @@ pub mod Mapping
 pub mod Apart
 pub mod Working
 pub mod Fine
-pub mod Bytewise

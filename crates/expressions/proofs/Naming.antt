@@ -10,13 +10,13 @@ use Rattle.expressions.specs.Firsts.{name_length, symbol_of, after_percent, firs
 -- both tests of an `and` passed
 pub both : (a b : Bool) → a && b ≡ true → (a ≡ true) × (b ≡ true)
 both true b e = (refl, e)
-both false b e = absurd (let z : ◌≡◌ {A = ℕ} 0 1 = cc in omega arith)
+both false b e = absurd (cc)
 
 pub and_true : (a b : Bool) → a ≡ true → b ≡ true → a && b ≡ true
 and_true a b e f = rw (e, f) refl
 
 pub not_true : (a : Bool) → not a ≡ true → a ≡ false
-not_true true e = absurd (let z : ◌≡◌ {A = ℕ} 0 1 = cc in omega arith)
+not_true true e = absurd (cc)
 not_true false e = refl
 
 -- a letter begins a name of at least one
@@ -26,7 +26,7 @@ named_some (b ∷ bs) e = go (letter b) (digit b) e
   where
     go : (l d : Bool) → l ≡ true → letter_first (take (cond (not (l || d)) 0 (suc (name_length bs))) (b ∷ bs)) ≡ true
     go true d f = e
-    go false d f = absurd (let z : ◌≡◌ {A = ℕ} 0 1 = cc in omega arith)
+    go false d f = absurd (cc)
 
 -- the name has only letters and digits
 pub named_every : (bs : List ℕ) → every letter_or_digit (take (name_length bs) bs) ≡ true
@@ -58,7 +58,7 @@ name_is (d ∷ cs) rest e f =
   where
     go : (z : Bool) → z ≡ true → name_length (cs ++ rest) ≡ length cs → cond (not z) 0 (suc (name_length (cs ++ rest))) ≡ suc (length cs)
     go true e ih = ap suc ih
-    go false e ih = absurd (let z : ◌≡◌ {A = ℕ} 0 1 = cc in omega arith)
+    go false e ih = absurd (cc)
 
 -- what is said of a first piece: it is written first, and may stand before what follows
 pub record Found (bs : List ℕ) (p : Piece) : Type 0 where
@@ -79,7 +79,7 @@ named_is bs l h =
     and_true _ _ (named_some bs l) (and_true _ _ (named_every bs) few)
 
 single_split : (bs : List ℕ) → single bs ≡ true → (rest : List ℕ) × (bs ≡ 58 ∷ rest) × (begins 58 rest ≡ false)
-single_split [] e = absurd (let z : ◌≡◌ {A = ℕ} 0 1 = cc in omega arith)
+single_split [] e = absurd (cc)
 single_split (b ∷ bs) e =
     let p = both (eqb b 58) (not (begins 58 bs)) e in
     let q : b ≡ 58 = grind (arith, nat_tests) in
@@ -104,7 +104,7 @@ some_is : (p q : Piece) (bs : List ℕ) → Some p ≡ Some q → Found bs p →
 some_is p q bs e f = let P : Piece → Type 0 = Found bs in let i : p ≡ q = cc in subst P i f
 
 begins_split : (c : ℕ) (bs : List ℕ) → begins c bs ≡ true → (rest : List ℕ) × (bs ≡ c ∷ rest)
-begins_split c [] e = absurd (let z : ◌≡◌ {A = ℕ} 0 1 = cc in omega arith)
+begins_split c [] e = absurd (cc)
 begins_split c (b ∷ bs) e = let q : b ≡ c = grind (arith, nat_tests) in (bs, ap (λ x. x ∷ bs) q)
 
 percent_found : (bs : List ℕ) (p : Piece) → after_percent bs ≡ Some p → Found (37 ∷ bs) p
@@ -115,7 +115,7 @@ percent_found bs p = go (begins 37 bs) refl
         let t = both (letter_first bs) (leb (name_length bs) 7) e in
         let few : name_length bs ≤ 7 = grind (arith, nat_tests) in
         some_is _ p (37 ∷ bs) f (symbol_found bs t.0 few)
-    named_go false e f = absurd (let z : ◌≡◌ {A = ℕ} 0 1 = cc in omega arith)
+    named_go false e f = absurd (cc)
 
     go : (z : Bool) → begins 37 bs ≡ z → cond z (Some percent) (cond (letter_first bs && leb (name_length bs) 7) (Some (symbol_of (name_length bs) bs)) None) ≡ Some p → Found (37 ∷ bs) p
     go true e f =
@@ -125,7 +125,7 @@ percent_found bs p = go (begins 37 bs) refl
 
 -- the first piece that is read is there
 pub first_sound : (bs : List ℕ) (p : Piece) → first bs ≡ Some p → Found bs p
-first_sound [] p e = absurd (let z : ◌≡◌ {A = ℕ} 0 1 = cc in omega arith)
+first_sound [] p e = absurd (cc)
 first_sound (b ∷ bs) p e = go (eqb b 37) refl e
   where
     colon_go : (z : Bool) → eqb b 58 && begins 58 bs ≡ z → eqb b 37 ≡ false → Some (cond z colons (plain b)) ≡ Some p → Found (b ∷ bs) p

@@ -1,17 +1,13 @@
 -- The first word of an expression: what is read is there, and what is there is read.
-use Rattle.std.proofs.Common.{◌≡◌, ℕ, suc, ◌<◌, ◌≤◌, Bool, true, false, cond, not, ◌&&◌, eqb, leb, List, [], ◌∷◌, ◌++◌, length, get_or, take, drop, Some, None, Ok, Option, sym, refl, ap, ◌∙◌, subst, ap₂, arith}
-use Rattle.std.proofs.lemmas.List.{length-take-le, take-append-drop, take_at, drop_at}
+use Rattle.std.proofs.Common.{◌≡◌, ℕ, suc, ◌≤◌, Bool, true, false, cond, not, ◌&&◌, eqb, leb, List, [], ◌∷◌, ◌++◌, length, take, drop, Some, None, Option, sym, refl, ap, ◌∙◌, subst, arith}
+use Rattle.std.proofs.lemmas.List.{take-append-drop, take_at, drop_at}
 use Rattle.std.proofs.lemmas.Bool.Decides.{nat_tests}
-use Rattle.lines.proofs.Scans.{first_within}
 use Rattle.expressions.specs.declared.level.Op.TheVariants.{Plus, Minus, Times, Over}
-use Rattle.expressions.specs.declared.level.Token.TheVariants.{Factor}
 use Rattle.expressions.specs.Classes.{digit, letter_or_digit, every, digits}
 use Rattle.expressions.specs.Firsts.{name_length}
-use Rattle.expressions.specs.Kinds.{Operations}
-use Rattle.expressions.specs.Pieces.{letter_first, goes_on, named, Table}
+use Rattle.expressions.specs.Pieces.{letter_first, goes_on, named}
 use Rattle.expressions.specs.Trees.{Word, numeral, variable, operator, open', close, word_written, word_fits, digit_first}
 use Rattle.expressions.specs.Walks.{digits_length, variable_at, mark_at, first_word_of}
-use Rattle.expressions.specs.Words.{read_in}
 use Rattle.expressions.proofs.Naming.{both, and_true, not_true, name_is, named_is, named_stops}
 use Rattle.expressions.proofs.Joining.{FoundPart, Reader}
 
@@ -42,7 +38,7 @@ digits_is (d ∷ cs) rest e f =
   where
     go : (z : Bool) → z ≡ true → digits_length (cs ++ rest) ≡ length cs → cond (not z) 0 (suc (digits_length (cs ++ rest))) ≡ suc (length cs)
     go true e ih = ap suc ih
-    go false e ih = absurd (let z : ◌≡◌ {A = ℕ} 0 1 = cc in omega arith)
+    go false e ih = absurd (cc)
 
 there : (p : Word) (rest bs : List ℕ) → bs ≡ word_written p ++ rest → word_fits p rest ≡ true → FoundPart word_written word_fits bs p
 there p rest bs e f =
@@ -68,7 +64,7 @@ variable_found bs p f = go (letter_first bs && leb (name_length bs) 7) refl f
         let few : name_length bs ≤ 7 = grind (arith, nat_tests) in
         some_is _ p (37 ∷ bs) f (there (variable (take (name_length bs) bs)) (drop (name_length bs) bs) (37 ∷ bs) (ap (λ x. 37 ∷ x) (sym (take-append-drop (name_length bs) bs)))
         (and_true _ _ (named_is bs t.0 few) (ap not (named_stops bs))))
-    go false e f = absurd (let z : ◌≡◌ {A = ℕ} 0 1 = cc in omega arith)
+    go false e f = absurd (cc)
 
 mark_one : (b k : ℕ) (bs : List ℕ) (p q : Word) (other : Option Word) → word_written p ≡ k ∷ [] → ((rest : List ℕ) → word_fits p rest ≡ true)
     → (other ≡ Some q → FoundPart word_written word_fits (b ∷ bs) q) → cond (eqb b k) (Some p) other ≡ Some q → FoundPart word_written word_fits (b ∷ bs) q
@@ -87,10 +83,10 @@ mark_found b bs q f =
     (mark_one b 42 bs (operator Times) q _ refl (λ _. refl)
     (mark_one b 47 bs (operator Over) q _ refl (λ _. refl)
     (mark_one b 40 bs open' q _ refl (λ _. refl)
-    (mark_one b 41 bs close q None refl (λ _. refl) (λ g. absurd (let z : ◌≡◌ {A = ℕ} 0 1 = cc in omega arith))))))) f
+    (mark_one b 41 bs close q None refl (λ _. refl) (λ g. absurd (cc))))))) f
 
 pub word_sound : (bs : List ℕ) (p : Word) → first_word_of bs ≡ Some p → FoundPart word_written word_fits bs p
-word_sound [] p e = absurd (let z : ◌≡◌ {A = ℕ} 0 1 = cc in omega arith)
+word_sound [] p e = absurd (cc)
 word_sound (b ∷ bs) p e = go (digit b) refl e
   where
     mark_go : (z : Bool) → eqb b 37 ≡ z → cond z (variable_at bs) (mark_at b) ≡ Some p → FoundPart word_written word_fits (b ∷ bs) p
@@ -105,11 +101,11 @@ word_sound (b ∷ bs) p e = go (digit b) refl e
     go false e f = mark_go (eqb b 37) refl f
 
 letter_stays : (cs rest : List ℕ) → letter_first cs ≡ true → letter_first (cs ++ rest) ≡ true
-letter_stays [] rest e = absurd (let z : ◌≡◌ {A = ℕ} 0 1 = cc in omega arith)
+letter_stays [] rest e = absurd (cc)
 letter_stays (c ∷ cs) rest e = e
 
 pub word_complete : (p : Word) (rest : List ℕ) → word_fits p rest ≡ true → first_word_of (word_written p ++ rest) ≡ Some p
-word_complete (numeral []) rest e = absurd (let z : ◌≡◌ {A = ℕ} 0 1 = cc in omega arith)
+word_complete (numeral []) rest e = absurd (cc)
 word_complete (numeral (d ∷ ds)) rest e =
     let a = both (digit d && digits (d ∷ ds)) (not (digit_first rest)) e in
     let b = both (digit d) (digits (d ∷ ds)) a.0 in
@@ -135,19 +131,3 @@ word_complete close rest e = refl
 -- words are read from the left
 abbrev pub word_reader : Reader Word
 word_reader = record { write = word_written; may = word_fits; front = first_word_of; empty = refl; sound = word_sound; complete = word_complete }
-
--- the code reads the first word
-pub reads_numeral : {V : Type 0} (k : Operations V) (σ : Table) (text : List ℕ) (v : V) (n : ℕ) → 0 < length text → digit (get_or text 0 0) ≡ true → n ≡ digits_length text → v ≡ k.digits (take n text)
-    → Ok (record { token = Factor v; width = n; known = true }) ≡ read_in k σ (first_word_of text)
-reads_numeral k σ [] v n some d e is = absurd (omega arith)
-reads_numeral k σ (b ∷ bs) v n some d e is =
-    let cs = b ∷ bs in
-    let within = first_within (λ x. not (digit x)) cs in
-    let long : length (take (digits_length cs) cs) ≡ digits_length cs = length-take-le (digits_length cs) cs within in
-    let w : n ≡ length (take (digits_length cs) cs) = e ∙ sym long in
-    let first : first_word_of cs ≡ Some (numeral (take (digits_length cs) cs)) = ap (λ z. cond z (Some (numeral (take (digits_length cs) cs))) (cond (eqb b 37) (variable_at bs) (mark_at b))) d in
-    ap₂ (λ x m. Ok (record { token = Factor x; width = m; known = true })) (is ∙ ap (λ i. k.digits (take i cs)) e) w ∙ sym (ap (read_in k σ) first)
-
-pub reads_variable : (text : List ℕ) → 0 < length text → get_or text 0 0 ≡ 37 → first_word_of text ≡ variable_at (drop 1 text)
-reads_variable [] some e = absurd (omega arith)
-reads_variable (b ∷ bs) some e = ap (λ x. first_word_of (x ∷ bs)) e

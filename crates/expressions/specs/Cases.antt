@@ -1,10 +1,9 @@
 -- Worked cases.
 use Rattle.std.specs.Prelude.{◌≡◌, ℕ, List, ◌++◌, drop, pos, negsuc, Some, None, Ok, Err, codes}
 use Rattle.expressions.specs.declared.flaws.Flaw.TheVariants.{NoForm, UnknownSymbol, OutOfRange, ZeroDivisor}
-use Rattle.expressions.specs.declared.piece.Filled.TheVariants.{Length}
 use Rattle.expressions.specs.declared.symbol.Symbol.TheVariants.{Arithmetic}
 use Rattle.expressions.specs.Arithmetic.{Answers}
-use Rattle.expressions.specs.declared.order.Order.TheVariants.{Lower, Higher}
+use Rattle.std.specs.declared.cmp.Ordering.TheVariants.{Less, Greater}
 use Rattle.expressions.specs.Compared.{compared}
 use Rattle.expressions.specs.Pieces.{Table, Substituted}
 
@@ -29,10 +28,10 @@ pub record WorkedCases : Type 0 where
   pub by_zero : Answers none_known (codes "5/0") (Err ZeroDivisor)
   pub unknown_first : Answers none_known (codes "5/0+%A") (Err UnknownSymbol)
   pub symbol : Answers all_three (codes "(%A+1)*2") (Ok (pos 8))
-  pub two_colons : (before : List ℕ) → Substituted all_three (codes "%A::B") before (codes "3:B" ++ drop 3 before) (Ok (Length 3))
-  pub one_colon : (before : List ℕ) → Substituted all_three (codes "%A:B") before (codes "3B" ++ drop 2 before) (Ok (Length 2))
-  pub three_colons : (before : List ℕ) → Substituted all_three (codes "%A:::B") before (codes "3::B" ++ drop 4 before) (Ok (Length 4))
-  pub percents : (before : List ℕ) → Substituted none_known (codes "5%%:") before (codes "5%:" ++ drop 3 before) (Ok (Length 3))
-  pub shorter_lower : compared (codes "Z") (codes "AA") ≡ Lower
-  pub zero_before : compared (codes "20") (codes "020") ≡ Lower
-  pub byte_decides : compared (codes "AB") (codes "AA") ≡ Higher
+  pub two_colons : (before : List ℕ) → Substituted all_three (codes "%A::B") before (codes "3:B" ++ drop 3 before) (Ok (Some 3))
+  pub one_colon : (before : List ℕ) → Substituted all_three (codes "%A:B") before (codes "3B" ++ drop 2 before) (Ok (Some 2))
+  pub three_colons : (before : List ℕ) → Substituted all_three (codes "%A:::B") before (codes "3::B" ++ drop 4 before) (Ok (Some 4))
+  pub percents : (before : List ℕ) → Substituted none_known (codes "5%%:") before (codes "5%:" ++ drop 3 before) (Ok (Some 3))
+  pub shorter_lower : compared (codes "Z") (codes "AA") ≡ Less
+  pub zero_before : compared (codes "20") (codes "020") ≡ Less
+  pub byte_decides : compared (codes "AB") (codes "AA") ≡ Greater

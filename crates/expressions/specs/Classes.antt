@@ -1,5 +1,6 @@
 -- Characters: what one begins, letters and digits.
-use Rattle.std.specs.Prelude.{ℕ, Bool, true, cond, ◌&&◌, ◌||◌, List, [], ◌∷◌, ◌==◌, nat_le}
+use Rattle.std.specs.Prelude.{ℕ, Bool, cond, ◌&&◌, ◌||◌, List, ◌==◌, nat_le}
+use Rattle.std.specs.List.{list_all}
 use Rattle.expressions.specs.declared.classes.Class.{Class}
 use Rattle.expressions.specs.declared.classes.Class.TheVariants.{Variable, Sequence, Colon, Apostrophe, Plain}
 
@@ -21,8 +22,7 @@ letter_or_digit b = letter b || digit b
 
 -- every byte passes the test
 abbrev pub every : (ℕ → Bool) → List ℕ → Bool
-every p [] = true
-every p (b ∷ bs) = p b && every p bs
+every p bs = list_all p bs
 
 -- every byte is a digit
 abbrev pub digits : List ℕ → Bool

@@ -1,5 +1,6 @@
 -- The first piece of a field, read from the left.
 use Rattle.std.specs.Prelude.{◌≡◌, ℕ, ◌<◌, ◌≤◌, cond, not, ◌&&◌, List, [], ◌∷◌, length, take, drop, Some, None, Ok, Err, Option, Result, ◌==◌, nat_le}
+use Rattle.arrayvec.specs.ArrayVec.{ArrayVec}
 use Rattle.lines.specs.Fields.{first_by}
 use Rattle.expressions.specs.declared.flaws.Flaw.{Flaw}
 use Rattle.expressions.specs.declared.flaws.Flaw.TheVariants.{NoForm}
@@ -29,7 +30,7 @@ abbrev pub reading_of : Option Piece → Result Reading Flaw
 reading_of None = Err NoForm
 reading_of (Some p) = Ok (record { gives = gives_of p; width = length (piece_written p) })
 
--- the first bytes of a buffer hold the text, or it is longer than 255
-abbrev pub Held : List ℕ → Option ℕ → List ℕ → Type 0
-Held bytes None t = 255 < length t
-Held bytes (Some n) t = (n ≡ length t) × (n ≤ 255) × (take n bytes ≡ t)
+-- the text is held, or it is longer than 255
+abbrev pub Held : Option (ArrayVec ℕ) → List ℕ → Type 0
+Held None t = 255 < length t
+Held (Some v) t = (v.items ≡ t) × (length t ≤ 255)

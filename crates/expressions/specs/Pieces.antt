@@ -2,8 +2,6 @@
 use Rattle.std.specs.Prelude.{◌≡◌, ℕ, ◌<◌, ◌≤◌, Bool, true, false, not, ◌&&◌, List, [], ◌∷◌, ◌++◌, length, drop, replicate, Some, None, Ok, Err, Option, Result, ◌==◌, nat_le}
 use Rattle.expressions.specs.declared.flaws.Flaw.{Flaw}
 use Rattle.expressions.specs.declared.flaws.Flaw.TheVariants.{NoForm, UnknownSymbol, NotDigits, OutOfRange, ZeroDivisor}
-use Rattle.expressions.specs.declared.piece.Filled.{Filled}
-use Rattle.expressions.specs.declared.piece.Filled.TheVariants.{Length, TooLong}
 use Rattle.expressions.specs.declared.piece.Gives.{Gives}
 use Rattle.expressions.specs.declared.piece.Gives.TheVariants.{Byte, Named}
 use Rattle.expressions.specs.declared.symbol.Symbol.{Symbol}
@@ -123,9 +121,9 @@ Refused t field OutOfRange = ⊥
 Refused t field ZeroDivisor = ⊥
 
 -- what substitution answers, and what the buffer holds after it
-abbrev pub Substituted : Table → List ℕ → List ℕ → List ℕ → Result Filled Flaw → Type 0
-Substituted t field before after (Ok (Length n)) =
+abbrev pub Substituted : Table → List ℕ → List ℕ → List ℕ → Result (Option ℕ) Flaw → Type 0
+Substituted t field before after (Ok (Some n)) =
     (ps : List Piece) × Reads ps field × (all_known t ps ≡ true) × (n ≡ length (text_of_all t ps)) × (n ≤ 255) × (after ≡ text_of_all t ps ++ drop n before)
-Substituted t field before after (Ok TooLong) =
+Substituted t field before after (Ok None) =
     (ps : List Piece) × Reads ps field × (all_known t ps ≡ true) × (255 < length (text_of_all t ps)) × (after ≡ before)
 Substituted t field before after (Err f) = Refused t field f × (after ≡ before)

@@ -33,6 +33,7 @@ words_of (signed o t) = operator o ∷ words_of t
 words_of (applied o a b) = words_of a ++ (operator o ∷ words_of b)
 words_of (group t) = open' ∷ (words_of t ++ (close ∷ []))
 
+-- how an operator is written
 abbrev pub op_byte : Op → ℕ
 op_byte Plus = 43
 op_byte Minus = 45
@@ -47,6 +48,7 @@ word_written (operator o) = op_byte o ∷ []
 word_written open' = 40 ∷ []
 word_written close = 41 ∷ []
 
+-- the bytes begin with a digit
 abbrev pub digit_first : List ℕ → Bool
 digit_first [] = false
 digit_first (b ∷ bs) = digit b
@@ -73,6 +75,7 @@ pub data Shape : Type 0 where
   as_product : Shape
   as_factor : Shape
 
+-- a tree in this place may open with a sign, be a sum, be a product
 abbrev pub takes_sign : Shape → Bool
 takes_sign as_sum = true
 takes_sign as_lead = true

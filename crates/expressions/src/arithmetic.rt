@@ -1,37 +1,27 @@
 // Arithmetic: an expression worked out from the left in any kind of number.
-ghost use Rattle.std.specs.Prelude.{◌≡◌, ◌&&◌, length};
+ghost use Rattle.std.specs.Prelude.{length};
 ghost use Rattle.expressions.specs.Trees.{OneTree, Worked};
 ghost use Rattle.expressions.specs.Walks.{Ended};
 
 use crate::flaws::Flaw;
-use crate::level::{Level, Place};
+use crate::level::{Level, Walk};
 use crate::number::Number;
 use crate::symbols::Symbols;
 use crate::tokens::first_word;
-use crate::walks::{fresh_level, joined, take_word};
-
-fn both(left: bool, right: bool) -> bool
-    ensures { result ≡ left && right }
-{
-    left && right
-}
+use crate::walks::{fresh_level, joined};
 
 // The value of a walk that may end here.
-fn ended<V: Number>(place: Place<V>) -> Result<V, Flaw>
-    ensures { Ended V.Number.operations place result }
+fn ended<V: Number>(walk: &Walk<'_, V>) -> Result<V, Flaw>
+    ensures { Ended V.Number.operations walk.now result }
 {
-    match place.after {
-        None => Err(Flaw::NoForm),
-        Some(product) => {
-            if place.depth > 0 {
-                return Err(Flaw::NoForm);
-            }
-            Ok(joined(place.level.sums, product))
-        }
+    match walk.after {
+        Some(product) if walk.depth == 0 => Ok(joined(walk.level.sums, product)),
+        _ => Err(Flaw::NoForm),
     }
 }
 
 // The value of an expression; the table has a row for each parenthesis that may be open at a time.
+#[tactic(auto, using(crate::proofs::Working::one_tree, crate::proofs::Working::word_within, crate::proofs::Working::word_shorter))]
 pub fn work_out<S: Symbols, V: Number>(
     symbols: &S,
     text: &[u8],
@@ -40,22 +30,21 @@ pub fn work_out<S: Symbols, V: Number>(
     ensures answer { Worked V.Number.operations (S.Symbols.meaning symbols.now) (length levels.old) text.now result }
     ensures one { OneTree }
 {
-    let mut place = Place {
+    let mut walk = Walk {
         level: fresh_level(),
         after: None,
         depth: 0,
+        levels,
     };
-    let mut known = true;
-    let mut at = 0;
-    while at < text.len() {
-        let word = first_word(symbols, &text[at..])?;
-        place = take_word(place, levels, word.token)?;
-        known = both(known, word.known);
-        at += word.width;
+    let mut known = Ok(());
+    let mut rest = text;
+    while !rest.is_empty() {
+        let word = first_word(symbols, rest)?;
+        walk.take(word.token)?;
+        known = known.and(word.known);
+        rest = &rest[word.width..];
     }
-    let value = ended(place)?;
-    if !known {
-        return Err(Flaw::UnknownSymbol);
-    }
+    let value = ended(&walk)?;
+    known?;
     Ok(value)
 }

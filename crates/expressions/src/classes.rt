@@ -2,16 +2,8 @@
 ghost use Rattle.std.specs.Prelude.{◌≡◌};
 ghost use Rattle.expressions.specs.Classes.{class_of, digit, letter, letter_or_digit};
 
-const FIRST_DIGIT: u8 = 48;
-
-const LAST_DIGIT: u8 = 57;
-
-const FIRST_LETTER: u8 = 65;
-
-const LAST_LETTER: u8 = 90;
-
 // What a character begins. `class_of` of specs/Classes decides.
-#[derive(Clone, Copy)]
+#[derive(Clone, Copy, Debug, PartialEq, Eq)]
 pub enum Class {
     Variable,
     Sequence,
@@ -37,14 +29,14 @@ pub fn class_of(character: char) -> Class
 pub fn is_digit(byte: u8) -> bool
     ensures { result ≡ digit byte }
 {
-    FIRST_DIGIT <= byte && byte <= LAST_DIGIT
+    matches!(byte, b'0'..=b'9')
 }
 
 // Is the byte a letter, A to Z?
 pub fn is_letter(byte: u8) -> bool
     ensures { result ≡ letter byte }
 {
-    FIRST_LETTER <= byte && byte <= LAST_LETTER
+    matches!(byte, b'A'..=b'Z')
 }
 
 // Is the byte a letter or a digit?

@@ -2,25 +2,11 @@
 ghost use Rattle.std.specs.Prelude.{◌≡◌};
 ghost use Rattle.expressions.specs.Compared.{compared};
 
-use crate::order::Order;
+use std::cmp::Ordering;
 
 // Of two texts the shorter is lower; of equal lengths the first bytes that differ decide.
-pub fn compare(left: &[u8], right: &[u8]) -> Order
+pub fn compare(left: &[u8], right: &[u8]) -> Ordering
     ensures { result ≡ compared left.now right.now }
 {
-    if left.len() < right.len() {
-        return Order::Lower;
-    }
-    if left.len() > right.len() {
-        return Order::Higher;
-    }
-    for (i, byte) in left.iter().enumerate() {
-        if *byte < right[i] {
-            return Order::Lower;
-        }
-        if *byte > right[i] {
-            return Order::Higher;
-        }
-    }
-    Order::Same
+    left.len().cmp(&right.len()).then_with(|| left.cmp(&right))
 }

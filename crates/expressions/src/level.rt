@@ -1,5 +1,9 @@
 // Operators, and the levels of an expression that is worked out from the left.
-#[derive(Clone, Copy)]
+ghost use Rattle.std.specs.Prelude.{◌≤◌, length};
+
+use crate::flaws::Flaw;
+
+#[derive(Clone, Copy, Debug, PartialEq, Eq)]
 pub enum Op {
     Plus,
     Minus,
@@ -9,16 +13,16 @@ pub enum Op {
 
 // A left side and its operator, which wait for the right side.
 #[derive(Clone, Copy)]
-pub enum Waiting<V> {
-    Nothing,
-    Left(V, Op),
+pub struct Left<V> {
+    pub value: V,
+    pub op: Op,
 }
 
 // A level of parentheses: the sum and the product that wait, and the sign that opened it.
 #[derive(Clone, Copy)]
 pub struct Level<V> {
-    pub(crate) sums: Waiting<V>,
-    pub(crate) products: Waiting<V>,
+    pub(crate) sums: Option<Left<V>>,
+    pub(crate) products: Option<Left<V>>,
     pub(crate) sign: Option<Op>,
 }
 
@@ -31,18 +35,20 @@ pub(crate) enum Token<V> {
     Close,
 }
 
-// Where a walk is: its level, the product so far where an operator may follow, and how many levels wait.
-#[derive(Clone, Copy)]
-pub(crate) struct Place<V> {
+// A walk over an expression: its level, the product so far where an operator may follow, how many levels wait, and the table that has them.
+#[derive(Drop)]
+pub(crate) struct Walk<'a, V> {
     pub(crate) level: Level<V>,
     pub(crate) after: Option<V>,
     pub(crate) depth: usize,
+    pub(crate) levels: &'a mut [Level<V>],
+    ghost room: { depth ≤ length levels.now },
 }
 
-// A word that was read: what it is, how many bytes it takes, and whether its symbol, if it is one, is known.
+// A word that was read: what it is, how many bytes it takes, and the flaw if it is a symbol that is unknown.
 #[derive(Clone, Copy)]
 pub(crate) struct WordRead<V> {
     pub(crate) token: Token<V>,
     pub(crate) width: usize,
-    pub(crate) known: bool,
+    pub(crate) known: Result<(), Flaw>,
 }

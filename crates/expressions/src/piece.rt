@@ -1,4 +1,4 @@
-// What a piece of a field gives, and what substitution answers.
+// What a piece of a field gives.
 use crate::symbols::NAME;
 
 #[derive(Clone, Copy)]
@@ -12,12 +12,4 @@ pub(crate) enum Gives {
 pub(crate) struct Reading {
     pub(crate) gives: Gives,
     pub(crate) width: usize,
-}
-
-// What substitution gave.
-#[derive(Clone, Copy)]
-pub enum Filled {
-    // a text of this length stands in the buffer
-    Length(usize),
-    TooLong,
 }

@@ -7,12 +7,11 @@ use crate::classes::{Class, class_of, is_letter, is_letter_or_digit};
 use crate::flaws::Flaw;
 use crate::piece::{Gives, Reading};
 use crate::symbols::NAME;
-use crate::texts::write_front;
-use lines::BLANK;
+use lines::{BLANK, overwrite};
 
-pub(crate) const PERCENT: u8 = 37;
+pub(crate) const PERCENT: u8 = b'%';
 
-const COLON: u8 = 58;
+const COLON: u8 = b':';
 
 // The most letters and digits after a symbol's %.
 pub(crate) const MOST_AFTER: usize = 7;
@@ -21,37 +20,33 @@ pub(crate) const MOST_AFTER: usize = 7;
 fn begins_with(bytes: &[u8], byte: u8) -> bool
     ensures { result ≡ begins byte bytes.now }
 {
-    bytes.len() > 0 && bytes[0] == byte
+    matches!(bytes, [first, ..] if *first == byte)
 }
 
 // Do the bytes begin with a letter?
 pub(crate) fn letter_first(bytes: &[u8]) -> bool
     ensures { result ≡ letter_first bytes.now }
 {
-    bytes.len() > 0 && is_letter(bytes[0])
+    matches!(bytes, [first, ..] if is_letter(*first))
 }
 
 // Do the bytes begin with a colon that no colon follows?
 fn single_colon(bytes: &[u8]) -> bool
     ensures { result ≡ single bytes.now }
 {
-    if bytes.len() == 0 {
-        return false;
-    }
-    bytes[0] == COLON && !begins_with(&bytes[1..], COLON)
+    matches!(bytes, [COLON, rest @ ..] if !begins_with(rest, COLON))
 }
 
 // How many letters and digits stand first.
+#[tactic(auto, using(lines::proofs::Scans::first_found))]
 pub(crate) fn name_length(bytes: &[u8]) -> usize
     ensures value { result ≡ name_length bytes.now }
     ensures bound { result ≤ length bytes.now }
 {
-    for (i, byte) in bytes.iter().enumerate() {
-        if !is_letter_or_digit(*byte) {
-            return i;
-        }
-    }
-    bytes.len()
+    bytes
+        .iter()
+        .position(|byte| !is_letter_or_digit(*byte))
+        .unwrap_or(bytes.len())
 }
 
 // The name of a symbol: % and its letters and digits, filled with blanks.
@@ -61,7 +56,7 @@ pub(crate) fn name_of(letters: &[u8]) -> [u8; NAME]
 {
     let mut name = [BLANK; NAME];
     name[0] = PERCENT;
-    write_front(&mut name[1..NAME], letters);
+    overwrite(&mut name[1..], letters);
     name
 }
 
@@ -76,36 +71,33 @@ fn after_percent(rest: &[u8]) -> Result<Reading, Flaw>
         });
     }
     let len = name_length(rest);
-    if !letter_first(rest) {
+    if !letter_first(rest) || len > MOST_AFTER {
         return Err(Flaw::NoForm);
     }
-    if len > MOST_AFTER {
-        return Err(Flaw::NoForm);
-    }
-    let gives = Gives::Named(name_of(&rest[0..len]));
-    if single_colon(&rest[len..]) {
-        return Ok(Reading {
-            gives,
-            width: len + 2,
-        });
-    }
+    let (letters, after) = rest.split_at(len);
+    let width = if single_colon(after) {
+        len + 2
+    } else {
+        len + 1
+    };
     Ok(Reading {
-        gives,
-        width: len + 1,
+        gives: Gives::Named(name_of(letters)),
+        width,
     })
 }
 
-// The first piece of a field that is not empty.
+// The first piece of a field; an empty field has none.
 pub(crate) fn first_piece(field: &[u8]) -> Result<Reading, Flaw>
-    requires { 0 < length field.now }
     ensures { result ≡ reading_of (first field.now) }
 {
-    let byte = field[0];
-    match class_of(byte as char) {
-        Class::Variable => after_percent(&field[1..]),
-        Class::Colon => Ok(after_colon(&field[1..])),
+    let [byte, rest @ ..] = field else {
+        return Err(Flaw::NoForm);
+    };
+    match class_of(char::from(*byte)) {
+        Class::Variable => after_percent(rest),
+        Class::Colon => Ok(after_colon(rest)),
         _ => Ok(Reading {
-            gives: Gives::Byte(byte),
+            gives: Gives::Byte(*byte),
             width: 1,
         }),
     }

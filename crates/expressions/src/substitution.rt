@@ -1,75 +1,68 @@
 // Substitution of a field: its symbols become their texts.
-ghost use Rattle.std.specs.Prelude.{◌≡◌, ℕ, ◌≤◌, true, false, List, [], ◌∷◌, ◌++◌, length, MatchOption};
+ghost use Rattle.std.specs.Prelude.{◌≡◌, ℕ, true, false, List, ◌++◌, MatchOption};
 ghost use Rattle.expressions.specs.Firsts.{Held};
 ghost use Rattle.expressions.specs.Pieces.{OneReading, Substituted, given_known, given_text};
 ghost use Rattle.expressions.specs.Texts.{text_of};
 
 use crate::flaws::Flaw;
 use crate::numbers::shown_as;
-use crate::piece::{Filled, Gives};
+use crate::piece::Gives;
 use crate::pieces::first_piece;
 use crate::symbols::Symbols;
 use crate::text::Text;
-use crate::texts::write_front;
-use lines::BLANK;
+use arrayvec::ArrayVec;
+use lines::overwrite;
 
 // The longest text that a field becomes.
 pub const LONGEST_FIELD: usize = 255;
+
+// The text of a field as far as it is written.
+type Written = ArrayVec<u8, LONGEST_FIELD>;
 
 // The text of what a piece gives, if its symbol is known.
 fn text_given<S: Symbols>(symbols: &S, gives: Gives) -> Option<Text>
     ensures { MatchOption result (given_known (S.Symbols.meaning symbols.now) gives ≡ false) (λ t. (given_known (S.Symbols.meaning symbols.now) gives ≡ true) × (text_of t ≡ given_text (S.Symbols.meaning symbols.now) gives)) }
 {
     match gives {
-        Gives::Byte(byte) => Some(Text::empty().pushed(byte)),
-        Gives::Named(name) => match symbols.find(name) {
-            Some(symbol) => Some(shown_as(symbol)),
-            None => None,
-        },
+        Gives::Byte(byte) => Some(Text::of(&[byte])),
+        Gives::Named(name) => symbols.find(name).map(shown_as),
     }
 }
 
-// Writes a text behind what the bytes hold, if there is room for both.
-fn append(bytes: &mut [u8], held: Option<usize>, text: &[u8]) -> Option<usize>
-    requires { length bytes.old ≡ 255 }
-    ensures { (t : List ℕ) → Held bytes.old held t → Held bytes.new result (t ++ text.now) }
+// Writes a text behind what is held, if there is room for both.
+fn append(held: Option<Written>, text: &[u8]) -> Option<Written>
+    ensures { (t : List ℕ) → Held held t → Held result (t ++ text.now) }
 {
-    let len = held?;
-    if len > LONGEST_FIELD || text.len() > LONGEST_FIELD - len {
-        return None;
-    }
-    let end = len + text.len();
-    bytes[len..end].copy_from_slice(text);
-    Some(end)
+    let mut held = held?;
+    held.try_extend_from_slice(text).ok()?;
+    Some(held)
 }
 
-// Puts the text of a field into the first bytes of the buffer; a field with none leaves it as it is.
+// Puts the text of a field into the first bytes of the buffer, and answers its length, or `None` where it is too
+// long. A field with none leaves the buffer as it is.
 pub fn substitute<S: Symbols>(
     symbols: &S,
     field: &[u8],
     buffer: &mut [u8; LONGEST_FIELD],
-) -> Result<Filled, Flaw>
+) -> Result<Option<usize>, Flaw>
     ensures answer { Substituted (S.Symbols.meaning symbols.now) field.now buffer.old buffer.new result }
     ensures one { OneReading }
 {
-    let mut bytes = [BLANK; LONGEST_FIELD];
-    let mut held = Some(0);
-    let mut unknown = false;
-    let mut at = 0;
-    while at < field.len() {
-        let reading = first_piece(&field[at..])?;
+    let mut held = Some(ArrayVec::new());
+    let mut known = Ok(());
+    let mut rest = field;
+    while !rest.is_empty() {
+        let reading = first_piece(rest)?;
         match text_given(symbols, reading.gives) {
-            Some(text) => held = append(&mut bytes, held, text.bytes()),
-            None => unknown = true,
+            Some(text) => held = append(held, text.bytes()),
+            None => known = Err(Flaw::UnknownSymbol),
         }
-        at += reading.width;
+        rest = &rest[reading.width..];
     }
-    if unknown {
-        return Err(Flaw::UnknownSymbol);
-    }
-    let Some(len) = held else {
-        return Ok(Filled::TooLong);
+    known?;
+    let Some(text) = held else {
+        return Ok(None);
     };
-    write_front(buffer, &bytes[0..len]);
-    Ok(Filled::Length(len))
+    overwrite(buffer, text.as_slice());
+    Ok(Some(text.len()))
 }

@@ -2,10 +2,10 @@
 use crate::text::Text;
 
 // The number of a call, from 1; its text is four digits.
-#[derive(Clone, Copy)]
+#[derive(Clone, Copy, Debug, PartialEq, Eq)]
 pub struct CallNumber(pub u16);
 
-#[derive(Clone, Copy)]
+#[derive(Clone, Drop)]
 pub enum Symbol {
     Parameter(Text),
     Arithmetic(i32),

@@ -1,13 +1,14 @@
 // A text by value: at most 48 bytes.
-ghost use Rattle.std.specs.Prelude.{◌≡◌, ◌≤◌, length};
+ghost use Rattle.std.specs.Prelude.{◌≤◌};
+ghost use Rattle.arrayvec.specs.ArrayVec.{array_vec_len};
+
+use arrayvec::ArrayVec;
 
 // The longest text that a symbol has.
 pub const LONGEST_TEXT: usize = 48;
 
-#[derive(Clone, Copy)]
+#[derive(Drop)]
 pub struct Text {
-    pub(crate) bytes: [u8; LONGEST_TEXT],
-    pub(crate) len: usize,
-    ghost fits: { len ≤ 48 },
-    ghost sized: { length bytes ≡ 48 },
+    pub(crate) bytes: ArrayVec<u8, LONGEST_TEXT>,
+    ghost fits: { array_vec_len bytes ≤ 48 },
 }

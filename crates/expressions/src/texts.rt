@@ -1,24 +1,18 @@
 // A text made from bytes and read as bytes.
-ghost use Rattle.std.specs.Prelude.{◌≡◌, ◌+◌, ◌<◌, ◌≤◌, [], ◌∷◌, ◌++◌, length, drop, MatchOption};
+ghost use Rattle.std.specs.Prelude.{◌≡◌, ◌<◌, ◌≤◌, length, MatchOption};
 ghost use Rattle.expressions.specs.Texts.{text_of};
 
-use crate::text::{LONGEST_TEXT, Text};
-use lines::BLANK;
+use crate::text::Text;
+use arrayvec::ArrayVec;
+use std::alloc::AllocError;
 
 impl Text {
     // A text of these bytes, if they are at most 48.
     pub fn new(text: &[u8]) -> Option<Text>
         ensures { MatchOption result (48 < length text.now) (λ t. text_of t ≡ text.now) }
     {
-        if text.len() > LONGEST_TEXT {
-            return None;
-        }
-        let mut bytes = [BLANK; LONGEST_TEXT];
-        write_front(&mut bytes, text);
-        Some(Text {
-            bytes,
-            len: text.len(),
-        })
+        let bytes = ArrayVec::try_from(text).ok()?;
+        Some(Text { bytes })
     }
 
     // The bytes of the text.
@@ -26,40 +20,28 @@ impl Text {
         ensures text { result.now ≡ text_of self.now }
         ensures short { length result.now ≤ 48 }
     {
-        &self.bytes[0..self.len]
+        self.bytes.as_slice()
     }
 
-    // The text with one byte more.
-    pub(crate) fn pushed(self, byte: u8) -> Text
-        requires { self.len < 48 }
-        ensures text { text_of result ≡ text_of self ++ byte ∷ [] }
-        ensures len { result.len ≡ self.len + 1 }
+    // A text of these bytes, which are few enough.
+    pub(crate) fn of(text: &[u8]) -> Text
+        requires { length text.now ≤ 48 }
+        ensures { text_of result ≡ text.now }
     {
-        let mut bytes = self.bytes;
-        bytes[self.len] = byte;
-        Text {
-            bytes,
-            len: self.len + 1,
-        }
-    }
-
-    // The text of no bytes.
-    pub(crate) fn empty() -> Text
-        ensures text { text_of result ≡ [] }
-        ensures len { result.len ≡ 0 }
-    {
-        Text {
-            bytes: [BLANK; LONGEST_TEXT],
-            len: 0,
-        }
+        Text::new(text).unwrap()
     }
 }
 
-// Writes the text over the first bytes.
-pub(crate) fn write_front(bytes: &mut [u8], text: &[u8])
-    requires { length text.now ≤ length bytes.old }
-    ensures { bytes.new ≡ text.now ++ drop (length text.now) bytes.old }
-{
-    let len = text.len();
-    bytes[0..len].copy_from_slice(text);
+// A copy of a text; it allocates nothing, so it never fails.
+impl Clone for Text {
+    ghost use Rattle.std.specs.Prelude.{⊤, ◌≡◌};
+    ghost use Rattle.expressions.specs.Texts.{text_of};
+
+    ghost is_clone = { λ text copy. text_of copy ≡ text_of text };
+
+    ghost is_infallible = { λ text. ⊤ };
+
+    fn clone(&self) -> Result<Text, AllocError> {
+        Ok(Text::of(self.bytes()))
+    }
 }

@@ -1,5 +1,5 @@
 // The first word of an expression.
-ghost use Rattle.std.specs.Prelude.{◌≡◌, ◌<◌, ◌≤◌, length};
+ghost use Rattle.std.specs.Prelude.{◌≡◌, ◌≤◌, length};
 ghost use Rattle.expressions.specs.Words.{ReadWord};
 ghost use Rattle.expressions.specs.Pieces.{Table};
 ghost use Rattle.expressions.specs.Walks.{digits_length, first_word_of, mark_at, variable_at};
@@ -12,16 +12,15 @@ use crate::pieces::{MOST_AFTER, PERCENT, letter_first, name_length, name_of};
 use crate::symbols::Symbols;
 
 // How many digits stand first.
+#[tactic(auto, using(lines::proofs::Scans::first_found))]
 fn digits_length(bytes: &[u8]) -> usize
     ensures value { result ≡ digits_length bytes.now }
     ensures bound { result ≤ length bytes.now }
 {
-    for (i, byte) in bytes.iter().enumerate() {
-        if !is_digit(*byte) {
-            return i;
-        }
-    }
-    bytes.len()
+    bytes
+        .iter()
+        .position(|byte| !is_digit(*byte))
+        .unwrap_or(bytes.len())
 }
 
 // The operator or parenthesis that a byte is.
@@ -40,7 +39,7 @@ fn mark<V: Number>(byte: u8) -> Result<WordRead<V>, Flaw>
     Ok(WordRead {
         token,
         width: 1,
-        known: true,
+        known: Ok(()),
     })
 }
 
@@ -49,39 +48,36 @@ fn symbol_word<S: Symbols, V: Number>(symbols: &S, rest: &[u8]) -> Result<WordRe
     ensures { ReadWord V.Number.operations (S.Symbols.meaning symbols.now) (variable_at rest.now) result }
 {
     let len = name_length(rest);
-    if !letter_first(rest) {
+    if !letter_first(rest) || len > MOST_AFTER {
         return Err(Flaw::NoForm);
     }
-    if len > MOST_AFTER {
-        return Err(Flaw::NoForm);
-    }
-    let symbol = symbols.find(name_of(&rest[0..len]));
+    let symbol = symbols.find(name_of(&rest[..len]));
+    let known = symbol.as_ref().map(|_| ()).ok_or(Flaw::UnknownSymbol);
     Ok(WordRead {
         token: Token::Factor(V::of_symbol(symbol)),
         width: len + 1,
-        known: symbol.is_some(),
+        known,
     })
 }
 
-// The first word of an expression that is not empty.
+// The first word of an expression.
 pub(crate) fn first_word<S: Symbols, V: Number>(
     symbols: &S,
     text: &[u8],
 ) -> Result<WordRead<V>, Flaw>
-    requires { 0 < length text.now }
     ensures { ReadWord V.Number.operations (S.Symbols.meaning symbols.now) (first_word_of text.now) result }
 {
-    let byte = text[0];
-    if is_digit(byte) {
-        let len = digits_length(text);
-        return Ok(WordRead {
-            token: Token::Factor(V::of_digits(&text[0..len])),
-            width: len,
-            known: true,
-        });
+    match text {
+        [byte, ..] if is_digit(*byte) => {
+            let width = digits_length(text);
+            Ok(WordRead {
+                token: Token::Factor(V::of_digits(&text[..width])),
+                width,
+                known: Ok(()),
+            })
+        }
+        [PERCENT, rest @ ..] => symbol_word(symbols, rest),
+        [byte, ..] => mark(*byte),
+        [] => Err(Flaw::NoForm),
     }
-    if byte == PERCENT {
-        return symbol_word(symbols, &text[1..]);
-    }
-    mark(byte)
 }

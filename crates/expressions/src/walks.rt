@@ -1,81 +1,38 @@
 // One word of an expression, at its place in a table of levels.
-ghost use Rattle.std.specs.Prelude.{◌≡◌, ◌≤◌, length, Some, None};
+ghost use Rattle.std.specs.Prelude.{◌≡◌, length, Some, None};
 ghost use Rattle.expressions.specs.Trees.{additive};
-ghost use Rattle.expressions.specs.Walks.{Closed, Opened, Stepped, factor_place, fresh_level, is_fresh, is_nothing, join_with, operated_level, sign_place, sign_with, walker_of};
+ghost use Rattle.expressions.specs.Walks.{Stands, Stepped, factored, fresh_level, is_fresh, join_with, operated_level, sign_with, waits_in, walker_of};
 
 use crate::flaws::Flaw;
-use crate::level::{Level, Op, Place, Token, Waiting};
+use crate::level::{Left, Level, Op, Token, Walk};
 use crate::number::Number;
 
 // Is the operator + or -?
 fn is_additive(op: Op) -> bool
     ensures { result ≡ additive op }
 {
-    match op {
-        Op::Plus => true,
-        Op::Minus => true,
-        Op::Times => false,
-        Op::Over => false,
-    }
+    matches!(op, Op::Plus | Op::Minus)
 }
 
 // What waits, joined with its right side.
-pub(crate) fn joined<V: Number>(waiting: Waiting<V>, right: V) -> V
+pub(crate) fn joined<V: Number>(waiting: Option<Left<V>>, right: V) -> V
     ensures { result ≡ join_with (walker_of V.Number.operations) waiting right }
 {
-    match waiting {
-        Waiting::Nothing => right,
-        Waiting::Left(left, op) => left.applied(op, right),
-    }
+    waiting.map_or(right, |left| left.value.applied(left.op, right))
 }
 
 // A value with the sign that waits for it.
 fn with_sign<V: Number>(sign: Option<Op>, value: V) -> V
     ensures { result ≡ sign_with (walker_of V.Number.operations) sign value }
 {
-    match sign {
-        None => value,
-        Some(op) => value.signed(op),
-    }
-}
-
-// Does a left side wait?
-fn nothing_waits<V: Number>(waiting: Waiting<V>) -> bool
-    ensures { result ≡ is_nothing waiting }
-{
-    match waiting {
-        Waiting::Nothing => true,
-        Waiting::Left(_, _) => false,
-    }
+    sign.map_or(value, |op| value.signed(op))
 }
 
 // Is nothing read on the level?
 fn is_fresh<V: Number>(level: Level<V>) -> bool
     ensures { result ≡ is_fresh level }
 {
-    if !nothing_waits(level.sums) {
-        return false;
-    }
-    if !nothing_waits(level.products) {
-        return false;
-    }
-    level.sign.is_none()
-}
-
-// The place after a factor on a level.
-fn after_factor<V: Number>(level: Level<V>, factor: V, depth: usize) -> Place<V>
-    ensures { result ≡ factor_place (walker_of V.Number.operations) level factor depth }
-{
-    let value = joined(level.products, with_sign(level.sign, factor));
-    Place {
-        level: Level {
-            sums: level.sums,
-            products: Waiting::Nothing,
-            sign: None,
-        },
-        after: Some(value),
-        depth,
-    }
+    level.sums.is_none() && level.products.is_none() && level.sign.is_none()
 }
 
 // A level on which nothing is read.
@@ -83,134 +40,98 @@ pub fn fresh_level<V: Number>() -> Level<V>
     ensures { result ≡ fresh_level }
 {
     Level {
-        sums: Waiting::Nothing,
-        products: Waiting::Nothing,
+        sums: None,
+        products: None,
         sign: None,
     }
 }
 
-// A sign that opens a level.
-fn sign_opens<V: Number>(level: Level<V>, op: Op, depth: usize) -> Result<Place<V>, Flaw>
-    ensures { result ≡ sign_place level op depth }
-{
-    if !is_fresh(level) {
-        return Err(Flaw::NoForm);
+impl<V: Number> Walk<'_, V> {
+    // A factor on the level: its sign first, then the product that waits.
+    fn factor(&mut self, factor: V)
+        ensures { Stands self.new (factored (walker_of V.Number.operations) self.old.level factor (waits_in self.old)) (length self.old.levels.now) }
+    {
+        let value = joined(self.level.products, with_sign(self.level.sign, factor));
+        self.level = Level {
+            products: None,
+            sign: None,
+            ..self.level
+        };
+        self.after = Some(value);
     }
-    if !is_additive(op) {
-        return Err(Flaw::NoForm);
+
+    // One word where a factor is wanted.
+    fn wanting(&mut self, token: Token<V>) -> Result<(), Flaw>
+        requires { self.old.after ≡ None }
+        ensures { Stepped (walker_of V.Number.operations) self.old self.new token result }
+    {
+        match token {
+            Token::Factor(value) => self.factor(value),
+            Token::Operator(op) => {
+                if !is_fresh(self.level) || !is_additive(op) {
+                    return Err(Flaw::NoForm);
+                }
+                self.level.sign = Some(op);
+            }
+            Token::Open => {
+                // Kept: the proof does not see which row is written through `get_mut`.
+                if self.depth >= self.levels.len() {
+                    return Err(Flaw::NoForm);
+                }
+                self.levels[self.depth] = self.level;
+                self.level = fresh_level();
+                self.depth += 1;
+            }
+            Token::Close => return Err(Flaw::NoForm),
+        }
+        Ok(())
     }
-    Ok(Place {
-        level: Level {
-            sums: Waiting::Nothing,
-            products: Waiting::Nothing,
-            sign: Some(op),
-        },
-        after: None,
-        depth,
-    })
+
+    // One word after a product.
+    fn following(&mut self, product: V, token: Token<V>) -> Result<(), Flaw>
+        requires { self.old.after ≡ Some product }
+        ensures { Stepped (walker_of V.Number.operations) self.old self.new token result }
+    {
+        match token {
+            Token::Operator(op) => {
+                self.level = operated(self.level, product, op);
+                self.after = None;
+            }
+            Token::Close => {
+                self.depth = self.depth.checked_sub(1).ok_or(Flaw::NoForm)?;
+                let value = joined(self.level.sums, product);
+                self.level = self.levels[self.depth];
+                self.factor(value);
+            }
+            Token::Factor(_) | Token::Open => return Err(Flaw::NoForm),
+        }
+        Ok(())
+    }
+
+    // One word of an expression.
+    pub(crate) fn take(&mut self, token: Token<V>) -> Result<(), Flaw>
+        ensures { Stepped (walker_of V.Number.operations) self.old self.new token result }
+    {
+        match self.after {
+            None => self.wanting(token),
+            Some(product) => self.following(product, token),
+        }
+    }
 }
 
 // The level after an operator that follows a product.
 fn operated<V: Number>(level: Level<V>, product: V, op: Op) -> Level<V>
     ensures { result ≡ operated_level (walker_of V.Number.operations) level product op }
 {
-    if is_additive(op) {
-        return Level {
-            sums: Waiting::Left(joined(level.sums, product), op),
-            products: Waiting::Nothing,
-            sign: None,
-        };
-    }
+    let (sums, products) = if is_additive(op) {
+        let value = joined(level.sums, product);
+        (Some(Left { value, op }), None)
+    } else {
+        (level.sums, Some(Left { value: product, op }))
+    };
     Level {
-        sums: level.sums,
-        products: Waiting::Left(product, op),
+        sums,
+        products,
         sign: None,
-    }
-}
-
-// A parenthesis that opens: the level waits in the table.
-fn opened<V: Number>(
-    level: Level<V>,
-    depth: usize,
-    levels: &mut [Level<V>],
-) -> Result<Place<V>, Flaw>
-    ensures { Opened level depth levels.old levels.new result }
-{
-    if depth >= levels.len() {
-        return Err(Flaw::NoForm);
-    }
-    levels[depth] = level;
-    Ok(Place {
-        level: fresh_level(),
-        after: None,
-        depth: depth + 1,
-    })
-}
-
-// A parenthesis that closes: its value is a factor of the level that waited.
-fn closed<V: Number>(value: V, depth: usize, levels: &[Level<V>]) -> Result<Place<V>, Flaw>
-    requires { depth ≤ length levels.now }
-    ensures { Closed (walker_of V.Number.operations) value depth levels.now result }
-{
-    if depth == 0 {
-        return Err(Flaw::NoForm);
-    }
-    let level = levels[depth - 1];
-    Ok(after_factor(level, value, depth - 1))
-}
-
-// One word where a factor is wanted.
-fn wanting<V: Number>(
-    place: Place<V>,
-    levels: &mut [Level<V>],
-    token: Token<V>,
-) -> Result<Place<V>, Flaw>
-    requires depth { place.depth ≤ length levels.old }
-    requires wants { place.after ≡ None }
-    ensures { Stepped (walker_of V.Number.operations) place levels.old levels.new token result }
-{
-    match token {
-        Token::Factor(value) => Ok(after_factor(place.level, value, place.depth)),
-        Token::Operator(op) => sign_opens(place.level, op, place.depth),
-        Token::Open => opened(place.level, place.depth, levels),
-        Token::Close => Err(Flaw::NoForm),
-    }
-}
-
-// One word after a product.
-fn following<V: Number>(
-    place: Place<V>,
-    product: V,
-    levels: &[Level<V>],
-    token: Token<V>,
-) -> Result<Place<V>, Flaw>
-    requires depth { place.depth ≤ length levels.now }
-    requires after { place.after ≡ Some product }
-    ensures { Stepped (walker_of V.Number.operations) place levels.now levels.now token result }
-{
-    match token {
-        Token::Factor(_) => Err(Flaw::NoForm),
-        Token::Operator(op) => Ok(Place {
-            level: operated(place.level, product, op),
-            after: None,
-            depth: place.depth,
-        }),
-        Token::Open => Err(Flaw::NoForm),
-        Token::Close => closed(joined(place.level.sums, product), place.depth, levels),
-    }
-}
-
-// One word of an expression.
-pub(crate) fn take_word<V: Number>(
-    place: Place<V>,
-    levels: &mut [Level<V>],
-    token: Token<V>,
-) -> Result<Place<V>, Flaw>
-    requires { place.depth ≤ length levels.old }
-    ensures { Stepped (walker_of V.Number.operations) place levels.old levels.new token result }
-{
-    match place.after {
-        None => wanting(place, levels, token),
-        Some(product) => following(place, product, levels, token),
     }
 }

@@ -1,9 +1,9 @@
 -- What one advance of a layer does: the steps it takes are steps of the rule, and what is heard is what remained.
 use Rattle.std.proofs.Common.{◌≡◌, ℕ, zero, suc, ◌+◌, ◌-◌, ◌<◌, ◌≤◌, true, false, List, [], ◌∷◌, Some, None, Option, sym, refl, ap, ◌∙◌, subst, arith}
-use Rattle.sources.specs.declared.faults.Ending.{Ending}
 use Rattle.sources.specs.declared.line.Line.{Line}
-use Rattle.sources.specs.declared.hearing.Heard.{Heard}
-use Rattle.sources.specs.declared.hearing.Heard.TheVariants.{Got, Waits, Over}
+use Rattle.sources.specs.declared.answers.Told.{Told}
+use Rattle.sources.specs.declared.answers.Told.TheVariants as told
+use Rattle.sources.specs.Faults.{Ending}
 use Rattle.sources.specs.Hearings.{HearsOf, text_of}
 use Rattle.sources.specs.Meaning.{Priced, Remains, remaining, pay, pay_of, next_price, first_price, Paced, iterate, spend}
 use Rattle.sources.proofs.Paying.{iterate_joins, paced_spend}
@@ -15,10 +15,10 @@ use Rattle.layers.specs.Delays.{delay_joins, hears_delayed}
 use Rattle.layers.specs.Running.{layered_busy, idle_line, idle_over}
 
 -- what a deed tells
-abbrev pub TellsDeed : {S : Type 0} → Deed S → Option Heard → Type 0
+abbrev pub TellsDeed : {S : Type 0} → Deed S → Option (Told Line) → Type 0
 TellsDeed (onward s) o = o ≡ None
-TellsDeed (hands t s) o = (l : Line) × (t ≡ text_of l) × (o ≡ Some (Got l))
-TellsDeed (stops e s) o = o ≡ Some (Over e)
+TellsDeed (hands t s) o = (l : Line) × (t ≡ text_of l) × (o ≡ Some (told.Line l))
+TellsDeed (stops e s) o = o ≡ Some (told.Ended e)
 
 -- paying a first line whole
 pub spend_line : (m : Remains) (t : List ℕ) (b : ℕ) (ps : List Priced) → m.lines ≡ record { text = t; beyond = b } ∷ ps
@@ -42,21 +42,21 @@ heard_by (code.Stops e) s = refl
 
 module _ {S K : Type 0} (r : Rule S) (falls : Falls r) (meaning : K → Remains) (tick : K → K) (paced : Paced meaning tick) where
   -- a deed at its price
-  deed_meant : (d : Deed S) (b g : ℕ) (s : S) (k : K) (m before : Remains) (o : Option Heard) → suc b ≤ g → meaning k ≡ m
+  deed_meant : (d : Deed S) (b g : ℕ) (s : S) (k : K) (m before : Remains) (o : Option (Told Line)) → suc b ≤ g → meaning k ≡ m
       → before ≡ by d b (λ u. layered r u m) → TellsDeed d o → Advances before (laid_meaning r meaning (done d k)) g (suc b) o
   unfolding laid_meaning
   deed_meant (onward u) b g s k m before o fits below is told =
-      let P : Option Heard → Type 0 = λ x. Advances before (layered r u (meaning k)) g (suc b) x in
+      let P : Option (Told Line) → Type 0 = λ x. Advances before (layered r u (meaning k)) g (suc b) x in
       subst P (sym told) (is ∙ ap (λ x. delay (suc b) (layered r u x)) (sym below), omega arith, fits)
   deed_meant (hands t u) b g s k m before o fits below is (l, text, told) =
-      let P : Option Heard → Type 0 = λ x. Advances before (layered r u (meaning k)) g (suc b) x in
+      let P : Option (Told Line) → Type 0 = λ x. Advances before (layered r u (meaning k)) g (suc b) x in
       subst P (sym told) (b, (layered r u m).lines, ap (λ x. x.lines) is ∙ ap (λ x. record { text = x; beyond = b } ∷ (layered r u m).lines) text, refl, fits)
   deed_meant (stops e u) b g s k m before o fits below is told =
-      let P : Option Heard → Type 0 = λ x. Advances before (stopped e 0) g (suc b) x in
+      let P : Option (Told Line) → Type 0 = λ x. Advances before (stopped e 0) g (suc b) x in
       subst P (sym told) (ap (λ x. x.lines) is, ap (λ x. x.ending) is, ap (λ x. x.due) is, fits)
 
   -- a step of work
-  pub worked : (s : S) (k : K) (g : ℕ) (o : Option Heard) → r.busy s ≡ true → 1 ≤ g → TellsDeed (r.works s) o
+  pub worked : (s : S) (k : K) (g : ℕ) (o : Option (Told Line)) → r.busy s ≡ true → 1 ≤ g → TellsDeed (r.works s) o
       → Advanced r meaning tick (laid None s k) (done (r.works s) k) g 1 o
   unfolding laid_meaning laid_tick
   worked s k g o busy fits told = record {
@@ -75,7 +75,7 @@ module _ {S K : Type 0} (r : Rule S) (falls : Falls r) (meaning : K → Remains)
       ∙ charging b s (tick k) t ps idle (ap (λ x. x.lines) (paced k ∙ ap (λ qs. pay_of qs (meaning k).ending (meaning k).due) line))
 
   -- a line is taken
-  pub took : (s : S) (k after : K) (g n b : ℕ) (l : Line) (ps : List Priced) (o : Option Heard) → r.busy s ≡ false
+  pub took : (s : S) (k after : K) (g n b : ℕ) (l : Line) (ps : List Priced) (o : Option (Told Line)) → r.busy s ≡ false
       → (meaning k).lines ≡ record { text = text_of l; beyond = b } ∷ ps → n ≡ suc b → n ≤ g → after ≡ iterate tick n k → TellsDeed (r.takes s (text_of l)) o
       → Advanced r meaning tick (laid None s k) (done (r.takes s (text_of l)) after) g n o
   unfolding laid_meaning
@@ -121,11 +121,11 @@ module _ {S K : Type 0} (r : Rule S) (falls : Falls r) (meaning : K → Remains)
 
   -- the source below holds over
   pub waited : (s : S) (k after : K) (g n : ℕ) → r.busy s ≡ false → g < next_price (meaning k) → n ≡ g → after ≡ iterate tick n k
-      → Advanced r meaning tick (laid None s k) (laid None s after) g n (Some Waits)
+      → Advanced r meaning tick (laid None s k) (laid None s after) g n (Some told.Held)
   unfolding laid_meaning
   waited s k after g n idle above whole reached = go (meaning k).lines refl
     where
-      go : (ps : List Priced) → (meaning k).lines ≡ ps → Advanced r meaning tick (laid None s k) (laid None s after) g n (Some Waits)
+      go : (ps : List Priced) → (meaning k).lines ≡ ps → Advanced r meaning tick (laid None s k) (laid None s after) g n (Some told.Held)
       go [] e =
           let m = ap next_price (idle_over r falls s (meaning k) idle e) in
           let f = ap (λ qs. first_price qs (meaning k).due) e in
@@ -139,7 +139,7 @@ module _ {S K : Type 0} (r : Rule S) (falls : Falls r) (meaning : K → Remains)
   -- the source below tells its ending
   pub closed : (s : S) (k after : K) (g n : ℕ) (e f : Ending) → r.busy s ≡ false → (meaning k).lines ≡ [] → (meaning k).ending ≡ e → (meaning k).due ≡ n → n ≤ g
       → after ≡ iterate tick n k → f ≡ r.closes s e
-      → Advanced r meaning tick (laid None s k) (laid None s after) g n (Some (Over f))
+      → Advanced r meaning tick (laid None s k) (laid None s after) g n (Some (told.Ended f))
   unfolding laid_meaning
   closed s k after g n e f idle none ends due fits reached is =
       let m = idle_over r falls s (meaning k) idle none in
@@ -149,12 +149,12 @@ module _ {S K : Type 0} (r : Rule S) (falls : Falls r) (meaning : K → Remains)
       }
 
   -- an ending that was told is told again for nothing
-  pub over_again : (e : Ending) (s : S) (k : K) (g : ℕ) → Advanced r meaning tick (laid (Some e) s k) (laid (Some e) s k) g 0 (Some (Over e))
+  pub over_again : (e : Ending) (s : S) (k : K) (g : ℕ) → Advanced r meaning tick (laid (Some e) s k) (laid (Some e) s k) g 0 (Some (told.Ended e))
   unfolding laid_meaning
   over_again e s k g = record { meant = (refl, refl, refl, omega arith); reached = refl }
 
   -- a busy layer without a step waits
-  pub no_step : (s : S) (k : K) (g : ℕ) → r.busy s ≡ true → g ≡ 0 → Advanced r meaning tick (laid None s k) (laid None s k) g 0 (Some Waits)
+  pub no_step : (s : S) (k : K) (g : ℕ) → r.busy s ≡ true → g ≡ 0 → Advanced r meaning tick (laid None s k) (laid None s k) g 0 (Some told.Held)
   unfolding laid_meaning
   no_step s k g busy none =
       let m = ap next_price (layered_busy r falls s (meaning k) busy) in
@@ -162,59 +162,59 @@ module _ {S K : Type 0} (r : Rule S) (falls : Falls r) (meaning : K → Remains)
       record { meant = (omega arith, sym none); reached = refl }
 
   -- the same, as the code has it: its own ending, its state and what it tells by their equations
-  at : (from from' to to' : Laid S K) (g n : ℕ) (h : Option Heard) → from' ≡ from → to' ≡ to → Advanced r meaning tick from to g n h → Advanced r meaning tick from' to' g n h
+  at : (from from' to to' : Laid S K) (g n : ℕ) (h : Option (Told Line)) → from' ≡ from → to' ≡ to → Advanced r meaning tick from to g n h → Advanced r meaning tick from' to' g n h
   at from from' to to' g n h p q a =
       let P : Laid S K → Type 0 = λ x. Advanced r meaning tick x to g n h in
       let Q : Laid S K → Type 0 = λ x. Advanced r meaning tick from' x g n h in
       subst Q (sym q) (subst P (sym p) a)
 
-  told_by : (d : CodeDeed) (s : S) (x : Deed S) (h : Option Heard) → x ≡ did d s → h ≡ heard_of d → TellsDeed x h
+  told_by : (d : CodeDeed) (s : S) (x : Deed S) (h : Option (Told Line)) → x ≡ did d s → h ≡ heard_of d → TellsDeed x h
   told_by d s x h e i =
       let P : Deed S → Type 0 = λ y. TellsDeed y h in
-      let Q : Option Heard → Type 0 = λ y. TellsDeed (did d s) y in
+      let Q : Option (Told Line) → Type 0 = λ y. TellsDeed (did d s) y in
       subst P (sym e) (subst Q (sym i) (heard_by d s))
 
   left_by : (d : CodeDeed) (own : Option Ending) (s : S) (k : K) (x : Deed S) → x ≡ did d s → own ≡ ending_of d → laid own s k ≡ done x k
   left_by d own s k x e i = ap (λ y. laid y s k) i ∙ ended_by d s k ∙ ap (λ y. done y k) (sym e)
 
-  pub code_worked : (o own : Option Ending) (s s' : S) (k : K) (g : ℕ) (d : CodeDeed) (h : Option Heard) → o ≡ None → r.busy s ≡ true → 1 ≤ g
+  pub code_worked : (o own : Option Ending) (s s' : S) (k : K) (g : ℕ) (d : CodeDeed) (h : Option (Told Line)) → o ≡ None → r.busy s ≡ true → 1 ≤ g
       → r.works s ≡ did d s' → own ≡ ending_of d → h ≡ heard_of d → Advanced r meaning tick (laid o s k) (laid own s' k) g 1 h
   code_worked o own s s' k g d h none busy fits works ends tells =
       at (laid None s k) (laid o s k) (done (r.works s) k) (laid own s' k) g 1 h (ap (λ y. laid y s k) none) (left_by d own s' k (r.works s) works ends)
       (worked s k g h busy fits (told_by d s' (r.works s) h works tells))
 
-  pub code_no_step : (o : Option Ending) (s : S) (k : K) (g : ℕ) → o ≡ None → r.busy s ≡ true → g ≡ 0 → Advanced r meaning tick (laid o s k) (laid o s k) g 0 (Some Waits)
+  pub code_no_step : (o : Option Ending) (s : S) (k : K) (g : ℕ) → o ≡ None → r.busy s ≡ true → g ≡ 0 → Advanced r meaning tick (laid o s k) (laid o s k) g 0 (Some told.Held)
   code_no_step o s k g none busy nothing =
-      let e = ap (λ y. laid y s k) none in at (laid None s k) (laid o s k) (laid None s k) (laid o s k) g 0 (Some Waits) e e (no_step s k g busy nothing)
+      let e = ap (λ y. laid y s k) none in at (laid None s k) (laid o s k) (laid None s k) (laid o s k) g 0 (Some told.Held) e e (no_step s k g busy nothing)
 
-  pub code_took : (o own : Option Ending) (s s' : S) (k after : K) (g n : ℕ) (l : Line) (d : CodeDeed) (h : Option Heard) → o ≡ None → r.busy s ≡ false
-      → HearsOf (meaning k) g n (Got l) → after ≡ iterate tick n k
+  pub code_took : (o own : Option Ending) (s s' : S) (k after : K) (g n : ℕ) (l : Line) (d : CodeDeed) (h : Option (Told Line)) → o ≡ None → r.busy s ≡ false
+      → HearsOf (meaning k) g n (told.Line l) → after ≡ iterate tick n k
       → r.takes s (text_of l) ≡ did d s' → own ≡ ending_of d → h ≡ heard_of d → Advanced r meaning tick (laid o s k) (laid own s' after) g n h
   code_took o own s s' k after g n l d h none idle (b, ps, line, costs, fits) reached takes ends tells =
       at (laid None s k) (laid o s k) (done (r.takes s (text_of l)) after) (laid own s' after) g n h (ap (λ y. laid y s k) none) (left_by d own s' after (r.takes s (text_of l)) takes ends)
       (took s k after g n b l ps h idle line costs fits reached (told_by d s' (r.takes s (text_of l)) h takes tells))
 
-  pub code_waited : (o : Option Ending) (s : S) (k after : K) (g n : ℕ) → o ≡ None → r.busy s ≡ false → HearsOf (meaning k) g n Waits → after ≡ iterate tick n k
-      → Advanced r meaning tick (laid o s k) (laid o s after) g n (Some Waits)
+  pub code_waited : (o : Option Ending) (s : S) (k after : K) (g n : ℕ) → o ≡ None → r.busy s ≡ false → HearsOf (meaning k) g n told.Held → after ≡ iterate tick n k
+      → Advanced r meaning tick (laid o s k) (laid o s after) g n (Some told.Held)
   code_waited o s k after g n none idle (above, whole) reached =
-      at (laid None s k) (laid o s k) (laid None s after) (laid o s after) g n (Some Waits) (ap (λ y. laid y s k) none) (ap (λ y. laid y s after) none) (waited s k after g n idle above whole reached)
+      at (laid None s k) (laid o s k) (laid None s after) (laid o s after) g n (Some told.Held) (ap (λ y. laid y s k) none) (ap (λ y. laid y s after) none) (waited s k after g n idle above whole reached)
 
-  pub code_closed : (o : Option Ending) (s : S) (k after : K) (g n : ℕ) (e f : Ending) → o ≡ None → r.busy s ≡ false → HearsOf (meaning k) g n (Over e) → after ≡ iterate tick n k
-      → f ≡ r.closes s e → Advanced r meaning tick (laid o s k) (laid o s after) g n (Some (Over f))
+  pub code_closed : (o : Option Ending) (s : S) (k after : K) (g n : ℕ) (e f : Ending) → o ≡ None → r.busy s ≡ false → HearsOf (meaning k) g n (told.Ended e) → after ≡ iterate tick n k
+      → f ≡ r.closes s e → Advanced r meaning tick (laid o s k) (laid o s after) g n (Some (told.Ended f))
   code_closed o s k after g n e f none idle (no_lines, ends, due, fits) reached is =
-      at (laid None s k) (laid o s k) (laid None s after) (laid o s after) g n (Some (Over f)) (ap (λ y. laid y s k) none) (ap (λ y. laid y s after) none)
+      at (laid None s k) (laid o s k) (laid None s after) (laid o s after) g n (Some (told.Ended f)) (ap (λ y. laid y s k) none) (ap (λ y. laid y s after) none)
       (closed s k after g n e f idle no_lines ends due fits reached is)
 
-  pub code_over : (o : Option Ending) (e : Ending) (s : S) (k : K) (g : ℕ) → o ≡ Some e → Advanced r meaning tick (laid o s k) (laid o s k) g 0 (Some (Over e))
-  code_over o e s k g told =
-      let x = ap (λ y. laid y s k) told in at (laid (Some e) s k) (laid o s k) (laid (Some e) s k) (laid o s k) g 0 (Some (Over e)) x x (over_again e s k g)
+  pub code_over : (o : Option Ending) (e : Ending) (s : S) (k : K) (g : ℕ) → o ≡ Some e → Advanced r meaning tick (laid o s k) (laid o s k) g 0 (Some (told.Ended e))
+  code_over o e s k g own =
+      let x = ap (λ y. laid y s k) own in at (laid (Some e) s k) (laid o s k) (laid (Some e) s k) (laid o s k) g 0 (Some (told.Ended e)) x x (over_again e s k g)
 
   -- one part of a request after another
-  pub goes_on : (from mid to : Laid S K) (g s n : ℕ) (h : Option Heard) → s ≤ g → laid_meaning r meaning from ≡ delay s (laid_meaning r meaning mid)
+  pub goes_on : (from mid to : Laid S K) (g s n : ℕ) (h : Option (Told Line)) → s ≤ g → laid_meaning r meaning from ≡ delay s (laid_meaning r meaning mid)
       → mid ≡ iterate (laid_tick r meaning tick) s from → Advanced r meaning tick mid to (g - s) n h → h ≡ None
       → (s + n ≤ g) × (laid_meaning r meaning from ≡ delay (s + n) (laid_meaning r meaning to)) × (to ≡ iterate (laid_tick r meaning tick) (s + n) from) × (0 < n)
   goes_on from mid to g s n h fits meant reached a none =
-      let P : Option Heard → Type 0 = λ x. Advances (laid_meaning r meaning mid) (laid_meaning r meaning to) (g - s) n x in
+      let P : Option (Told Line) → Type 0 = λ x. Advances (laid_meaning r meaning mid) (laid_meaning r meaning to) (g - s) n x in
       let b = subst P none a.meant in (
         omega arith,
         meant ∙ ap (delay s) b.0 ∙ delay_joins s n (laid_meaning r meaning to),
@@ -222,11 +222,11 @@ module _ {S K : Type 0} (r : Rule S) (falls : Falls r) (meaning : K → Remains)
         b.1,
       )
 
-  pub turns : (from mid to : Laid S K) (g s n : ℕ) (o : Option Heard) (h : Heard) → s ≤ g → laid_meaning r meaning from ≡ delay s (laid_meaning r meaning mid)
+  pub turns : (from mid to : Laid S K) (g s n : ℕ) (o : Option (Told Line)) (h : Told Line) → s ≤ g → laid_meaning r meaning from ≡ delay s (laid_meaning r meaning mid)
       → mid ≡ iterate (laid_tick r meaning tick) s from → Advanced r meaning tick mid to (g - s) n o → o ≡ Some h
-      → Turned r meaning tick from to g (record { spent = s + n; heard = h })
+      → Turned r meaning tick from to g (record { spent = s + n; told = h })
   turns from mid to g s n o h fits meant reached a some =
-      let P : Option Heard → Type 0 = λ x. Advances (laid_meaning r meaning mid) (laid_meaning r meaning to) (g - s) n x in
+      let P : Option (Told Line) → Type 0 = λ x. Advances (laid_meaning r meaning mid) (laid_meaning r meaning to) (g - s) n x in
       let Q : Remains → Type 0 = λ x. HearsOf x g (s + n) h in
       record {
         hears = subst Q (sym meant) (hears_delayed s n g (laid_meaning r meaning mid) h fits (subst P some a.meant));

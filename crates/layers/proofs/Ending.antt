@@ -1,6 +1,6 @@
 -- The END layer's rule gives the lines up to and with END.
 use Rattle.std.proofs.Common.{◌≡◌, ℕ, Bool, true, false, List, [], ◌∷◌, refl, ap}
-use Rattle.sources.specs.declared.faults.Ending.{Ending}
+use Rattle.sources.specs.Faults.{Ending}
 use Rattle.sources.specs.Meaning.{Priced, Remains}
 use Rattle.layers.specs.Ends.{is_end, end_or, up_to_end, end_remains, end_rule}
 use Rattle.layers.specs.Engine.{and_then, working, taking, layered}

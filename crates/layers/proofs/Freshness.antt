@@ -1,6 +1,6 @@
 -- A layer over a source whose ending is untold has its ending untold.
 use Rattle.std.proofs.Common.{ℕ, zero, suc, ◌<◌, Bool, true, false, List, [], ◌∷◌, arith}
-use Rattle.sources.specs.declared.faults.Ending.{Ending}
+use Rattle.sources.specs.Faults.{Ending}
 use Rattle.sources.specs.Meaning.{Priced, Remains, Untold}
 use Rattle.layers.specs.Rules.{Deed, onward, hands, stops, Rule}
 use Rattle.layers.specs.Engine.{delay, delay_of, by, work_or, working, taking, layered}

@@ -1,8 +1,9 @@
 -- Steps that pass before what remains goes on.
 use Rattle.std.specs.Prelude.{◌≡◌, ℕ, suc, ◌+◌, ◌-◌, ◌<◌, ◌≤◌, List, [], ◌∷◌, refl}
 use Rattle.std.proofs.Common.{sym, ap, ◌∙◌, arith, zero-add, suc-add, add_assoc}
-use Rattle.sources.specs.declared.hearing.Heard.{Heard}
-use Rattle.sources.specs.declared.hearing.Heard.TheVariants.{Got, Waits, Over}
+use Rattle.sources.specs.declared.answers.Told.{Told}
+use Rattle.sources.specs.declared.answers.Told.TheVariants as told
+use Rattle.sources.specs.declared.line.Line.{Line}
 use Rattle.sources.specs.Hearings.{HearsOf}
 use Rattle.sources.specs.Meaning.{Priced, Remains, remaining, pay, next_price, first_price}
 use Rattle.layers.specs.Engine.{delay, delay_of}
@@ -36,15 +37,15 @@ delay_joins n k m = go m.lines
     go (p ∷ ps) = ap (λ b. remaining (line_of p.text b ∷ ps) m.ending m.due) (sym (add_assoc n k p.beyond))
 
 -- what is heard after some steps is heard of the whole, at all of them
-pub hears_delayed : (n k g : ℕ) (m : Remains) (h : Heard) → n ≤ g → HearsOf m (g - n) k h → HearsOf (delay n m) g (n + k) h
+pub hears_delayed : (n k g : ℕ) (m : Remains) (h : Told Line) → n ≤ g → HearsOf m (g - n) k h → HearsOf (delay n m) g (n + k) h
 unfolding delay
-hears_delayed n k g m (Got l) fits (b, ps, e, s, w) =
+hears_delayed n k g m (told.Line l) fits (b, ps, e, s, w) =
     (n + b, ps, ap (λ qs. (delay_of n qs m.ending m.due).lines) e, omega arith, omega arith)
-hears_delayed n k g m Waits fits (w, s) = (go m.lines w, omega arith)
+hears_delayed n k g m told.Held fits (w, s) = (go m.lines w, omega arith)
   where
     go : (ps : List Priced) → g - n < first_price ps m.due → g < next_price (delay_of n ps m.ending m.due)
     go [] x = omega arith
     go (p ∷ ps) x = omega arith
-hears_delayed n k g m (Over f) fits (e, s, d, w) =
+hears_delayed n k g m (told.Ended f) fits (e, s, d, w) =
     let is : delay_of n m.lines m.ending m.due ≡ remaining [] m.ending (n + m.due) = ap (λ qs. delay_of n qs m.ending m.due) e in
     (ap (λ x. x.lines) is, ap (λ x. x.ending) is ∙ s, ap (λ x. x.due) is ∙ ap (λ x. n + x) d, omega arith)

@@ -3,9 +3,7 @@ use Rattle.std.specs.Prelude.{ℕ, Bool, true, false, List, [], ◌∷◌, codes
 use Rattle.std.proofs.Common.{arith}
 use Rattle.std.specs.Str.{bytes_eq}
 use Rattle.lines.specs.Fields.{operation_of}
-use Rattle.sources.specs.declared.faults.Ending.{Ending}
-use Rattle.sources.specs.declared.faults.Ending.TheVariants.{End}
-use Rattle.sources.specs.Faults.{raised}
+use Rattle.sources.specs.Faults.{Ending, the_end, raised}
 use Rattle.sources.specs.Meaning.{Priced, Remains, remaining}
 use Rattle.layers.specs.declared.end.EndMachine.{EndMachine}
 use Rattle.layers.specs.Rules.{hands, stops, Rule, Falls}
@@ -16,7 +14,7 @@ is_end t = bytes_eq (operation_of t) (codes "END")
 
 -- the lines up to and with the first END, and then End at price 1; without such a line as the source below
 abbrev pub end_or : Bool → Priced → Remains → Remains
-end_or true p m = remaining (p ∷ []) End 1
+end_or true p m = remaining (p ∷ []) the_end 1
 end_or false p m = remaining (p ∷ m.lines) m.ending m.due
 
 abbrev pub up_to_end : List Priced → Ending → ℕ → Remains
@@ -32,7 +30,7 @@ abbrev pub end_rule : Rule Bool
 end_rule = record {
   busy = λ seen. seen;
   takes = λ seen t. hands t (is_end t);
-  works = λ seen. stops End false;
+  works = λ seen. stops the_end false;
   closes = λ seen e. raised e;
   bound = λ seen. 1;
 }

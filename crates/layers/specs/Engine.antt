@@ -1,9 +1,10 @@
 -- What a layer over a source means, from its rule and from the meaning below alone, and what it keeps step by step.
 use Rattle.std.specs.Prelude.{◌≡◌, ℕ, zero, suc, ◌+◌, ◌<◌, ◌≤◌, Bool, true, false, List, [], ◌∷◌, Some, None, Option}
-use Rattle.sources.specs.declared.faults.Ending.{Ending}
-use Rattle.sources.specs.declared.hearing.Heard.{Heard}
-use Rattle.sources.specs.declared.hearing.Heard.TheVariants.{Got, Over}
-use Rattle.sources.specs.declared.hearing.Hearing.{Hearing}
+use Rattle.sources.specs.declared.answers.Told.{Told}
+use Rattle.sources.specs.declared.answers.Told.TheVariants as told
+use Rattle.sources.specs.declared.line.Line.{Line}
+use Rattle.sources.specs.declared.answers.Answer.{Answer}
+use Rattle.sources.specs.Faults.{Ending}
 use Rattle.sources.specs.Hearings.{Hears, HearsOf, text_of}
 use Rattle.sources.specs.Meaning.{Priced, Remains, iterate, remaining}
 use Rattle.layers.specs.declared.machine.Deed.{Deed as CodeDeed}
@@ -103,25 +104,25 @@ did (code.Hands l) s = hands (text_of l) s
 did (code.Stops e) s = stops e s
 
 -- part of a request: some steps pass and nothing is told yet, or something is heard
-abbrev pub Advances : Remains → Remains → ℕ → ℕ → Option Heard → Type 0
+abbrev pub Advances : Remains → Remains → ℕ → ℕ → Option (Told Line) → Type 0
 Advances before after grant n None = (before ≡ delay n after) × (0 < n) × (n ≤ grant)
 Advances before after grant n (Some h) = HearsOf before grant n h
 
 -- the steps of part of a request: what remained becomes what remains, and what is kept is what the rules reach by them
-pub record Advanced {S K : Type 0} (r : Rule S) (meaning : K → Remains) (tick : K → K) (from to : Laid S K) (grant n : ℕ) (h : Option Heard) : Type 0 where
+pub record Advanced {S K : Type 0} (r : Rule S) (meaning : K → Remains) (tick : K → K) (from to : Laid S K) (grant n : ℕ) (h : Option (Told Line)) : Type 0 where
   pub meant : Advances (laid_meaning r meaning from) (laid_meaning r meaning to) grant n h
   pub reached : to ≡ iterate (laid_tick r meaning tick) n from
 
 -- a whole request: what is heard of what remained, and what is kept
-pub record Turned {S K : Type 0} (r : Rule S) (meaning : K → Remains) (tick : K → K) (from to : Laid S K) (grant : ℕ) (h : Hearing) : Type 0 where
+pub record Turned {S K : Type 0} (r : Rule S) (meaning : K → Remains) (tick : K → K) (from to : Laid S K) (grant : ℕ) (h : Answer (Told Line)) : Type 0 where
   pub hears : Hears (laid_meaning r meaning from) grant h
   pub reached : to ≡ iterate (laid_tick r meaning tick) h.spent from
 
 -- what is heard of a deed
-abbrev pub heard_of : CodeDeed → Option Heard
+abbrev pub heard_of : CodeDeed → Option (Told Line)
 heard_of code.Onward = None
-heard_of (code.Hands l) = Some (Got l)
-heard_of (code.Stops e) = Some (Over e)
+heard_of (code.Hands l) = Some (told.Line l)
+heard_of (code.Stops e) = Some (told.Ended e)
 
 -- the ending that a deed tells
 abbrev pub ending_of : CodeDeed → Option Ending
@@ -132,3 +133,7 @@ ending_of (code.Stops e) = Some e
 -- what the code of a layer keeps
 abbrev pub keeping : {A B S K : Type 0} → (B → S) → (A → K) → Layered A B → Laid S K
 keeping state kept x = laid x.own (state x.machine) (kept x.below)
+
+-- an advance of the code of a layer, by the members of its machine and of the source below
+abbrev pub Moves : {A B S K : Type 0} → Rule S → (B → S) → (K → Remains) → (K → K) → (A → K) → Layered A B → Layered A B → ℕ → Answer (Option (Told Line)) → Type 0
+Moves r state meaning tick kept old new grant a = Advanced r meaning tick (keeping state kept old) (keeping state kept new) grant a.spent a.told

@@ -1,6 +1,6 @@
 -- The rule of one kind of layer.
 use Rattle.std.specs.Prelude.{◌≡◌, ℕ, ◌<◌, Bool, true, List}
-use Rattle.sources.specs.declared.faults.Ending.{Ending}
+use Rattle.sources.specs.Faults.{Ending}
 
 -- what comes of a line that is taken or of a step of work: nothing to show, a line, or an ending; and the state after it
 pub data Deed (S : Type 0) : Type 0 where

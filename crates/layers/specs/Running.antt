@@ -2,7 +2,7 @@
 use Rattle.std.specs.Prelude.{◌≡◌, ℕ, zero, suc, pred, ◌<◌, ◌≤◌, Bool, true, false, List, [], ◌∷◌, Some, None, Option}
 use Rattle.std.proofs.Math.Path.{refl, sym, ap}
 use Rattle.std.proofs.Common.{◌∙◌, arith}
-use Rattle.sources.specs.declared.faults.Ending.{Ending}
+use Rattle.sources.specs.Faults.{Ending}
 use Rattle.sources.specs.Meaning.{Priced, Remains, remaining, pay, pay_of, Paced}
 use Rattle.layers.specs.Rules.{Deed, onward, hands, stops, Rule, Fewer, Falls}
 use Rattle.layers.specs.Engine.{delay, and_then, stopped, by, work_or, working, taking, layered, Laid, laid, meaning_of, laid_meaning, done, charged, listening, stepping, tick_of, laid_tick}

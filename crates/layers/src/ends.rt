@@ -9,7 +9,7 @@ use crate::layered::{Layered, over};
 use crate::machine::Deed;
 use crate::machines::Machine;
 use lines::operation;
-use sources::{Ending, Line, Source};
+use sources::{Ending, Line, Source, passed_up};
 
 const END: &[u8] = b"END";
 
@@ -33,25 +33,25 @@ impl Machine for EndMachine {
         self.seen
     }
 
-    fn take(&mut self, line: &Line) -> Deed {
+    fn take(&mut self, line: Line) -> Deed {
         self.seen = is_end(line.text());
-        Deed::Hands(*line)
+        Deed::Hands(line)
     }
 
     fn work(&mut self) -> Deed {
         self.seen = false;
-        Deed::Stops(Ending::End)
+        Deed::Stops(Ok(()))
     }
 
     fn close(&self, ending: Ending) -> Ending {
-        ending.passed_up()
+        passed_up(ending)
     }
 }
 
 // An END layer, fresh, over a source.
 pub fn end_layer<S: Source>(below: S) -> Layered<S, EndMachine>
-    ensures meaning { laid_meaning end_rule S.Source.meaning (keeping end_state S.Source.kept result) ≡ end_remains (S.Source.meaning (S.Source.kept below)) }
-    ensures untold { Untold (S.Source.meaning (S.Source.kept below)) → Untold (laid_meaning end_rule S.Source.meaning (keeping end_state S.Source.kept result)) }
+    ensures meaning { laid_meaning end_rule S.meaning (keeping end_state S.kept result) ≡ end_remains (S.meaning (S.kept below)) }
+    ensures untold { Untold (S.meaning (S.kept below)) → Untold (laid_meaning end_rule S.meaning (keeping end_state S.kept result)) }
 {
     over(below, EndMachine { seen: false })
 }

@@ -1,12 +1,11 @@
 // The engine: any machine over any source is a source.
 ghost use Rattle.std.specs.Prelude.{◌≡◌, ◌≤◌, true, false, None};
 ghost use Rattle.sources.specs.Meaning.{Untold};
-ghost use Rattle.layers.specs.Engine.{Advanced, Laid, Turned, ending_of, heard_of, keeping, laid, laid_meaning, laid_tick, layered};
+ghost use Rattle.layers.specs.Engine.{Laid, Moves, Turned, keeping, laid, laid_meaning, laid_tick, layered};
 ghost use Rattle.layers.specs.Running.{laid_paced};
 
-use crate::machine::Deed;
 use crate::machines::Machine;
-use sources::{Answer, Ending, Heard, Hearing, Refusal, Source, ask, deliver, refusal};
+use sources::{Answer, Ending, Line, Reply, Source, Told, admit, ask, deliver};
 
 #[derive(Drop)]
 pub struct Layered<S, M> {
@@ -16,96 +15,58 @@ pub struct Layered<S, M> {
     own: Option<Ending>,
 }
 
-// Some steps of a request, and what was heard by them, if anything.
-#[derive(Clone, Copy)]
-struct Advance {
-    spent: u32,
-    heard: Option<Heard>,
-}
-
-// What is heard of a deed.
-fn telling(deed: Deed) -> Option<Heard>
-    ensures { result ≡ heard_of deed }
-{
-    match deed {
-        Deed::Onward => None,
-        Deed::Hands(line) => Some(Heard::Got(line)),
-        Deed::Stops(ending) => Some(Heard::Over(ending)),
-    }
-}
-
-// The ending that a deed tells.
-fn stopping(deed: Deed) -> Option<Ending>
-    ensures { result ≡ ending_of deed }
-{
-    match deed {
-        Deed::Onward => None,
-        Deed::Hands(_) => None,
-        Deed::Stops(ending) => Some(ending),
-    }
-}
-
 impl<S: Source, M: Machine> Layered<S, M> {
     // A step of work, if the grant has one.
-    fn work(&mut self, grant: u32) -> Advance
+    fn work(&mut self, grant: u32) -> Answer<Option<Told<Line>>>
         requires goes { self.old.own ≡ None }
-        requires busy { M.Machine.rule.busy (M.Machine.state self.old.machine) ≡ true }
-        ensures { Advanced M.Machine.rule S.Source.meaning S.Source.tick (keeping M.Machine.state S.Source.kept self.old) (keeping M.Machine.state S.Source.kept self.new) grant result.spent result.heard }
+        requires busy { M.rule.busy (M.state self.old.machine) ≡ true }
+        ensures { Moves M.rule M.state S.meaning S.tick S.kept self.old self.new grant result }
     {
         if grant == 0 {
-            return Advance {
+            return Answer {
                 spent: 0,
-                heard: Some(Heard::Waits),
+                told: Some(Told::Held),
             };
         }
         let deed = self.machine.work();
-        self.own = stopping(deed);
-        Advance {
+        self.own = deed.ending();
+        Answer {
             spent: 1,
-            heard: telling(deed),
+            told: deed.told(),
         }
     }
 
     // A request to the source below, and what comes of what it told.
-    fn listen(&mut self, grant: u32) -> Advance
+    fn listen(&mut self, grant: u32) -> Answer<Option<Told<Line>>>
         requires small { grant ≤ 1000000 }
         requires goes { self.old.own ≡ None }
-        requires idle { M.Machine.rule.busy (M.Machine.state self.old.machine) ≡ false }
-        ensures { Advanced M.Machine.rule S.Source.meaning S.Source.tick (keeping M.Machine.state S.Source.kept self.old) (keeping M.Machine.state S.Source.kept self.new) grant result.spent result.heard }
+        requires idle { M.rule.busy (M.state self.old.machine) ≡ false }
+        ensures { Moves M.rule M.state S.meaning S.tick S.kept self.old self.new grant result }
     {
-        let Ok(hearing) = ask(&mut self.below, grant) else {
+        let Ok(Answer { spent, told }) = ask(&mut self.below, grant) else {
             return unreachable();
         };
-        let spent = hearing.spent;
-        match hearing.heard {
-            Heard::Got(line) => {
-                let deed = self.machine.take(&line);
-                self.own = stopping(deed);
-                Advance {
-                    spent,
-                    heard: telling(deed),
-                }
+        let told = match told {
+            Told::Line(line) => {
+                let deed = self.machine.take(line);
+                self.own = deed.ending();
+                deed.told()
             }
-            Heard::Waits => Advance {
-                spent,
-                heard: Some(Heard::Waits),
-            },
-            Heard::Over(ending) => Advance {
-                spent,
-                heard: Some(Heard::Over(self.machine.close(ending))),
-            },
-        }
+            Told::Held => Some(Told::Held),
+            Told::Ended(ending) => Some(Told::Ended(self.machine.close(ending))),
+        };
+        Answer { spent, told }
     }
 
     // One deed or one request below, within the grant.
-    fn advance(&mut self, grant: u32) -> Advance
+    fn advance(&mut self, grant: u32) -> Answer<Option<Told<Line>>>
         requires { grant ≤ 1000000 }
-        ensures { Advanced M.Machine.rule S.Source.meaning S.Source.tick (keeping M.Machine.state S.Source.kept self.old) (keeping M.Machine.state S.Source.kept self.new) grant result.spent result.heard }
+        ensures { Moves M.rule M.state S.meaning S.tick S.kept self.old self.new grant result }
     {
         if let Some(ending) = self.own {
-            return Advance {
+            return Answer {
                 spent: 0,
-                heard: Some(Heard::Over(ending)),
+                told: Some(Told::Ended(ending)),
             };
         }
         if self.machine.busy() {
@@ -115,17 +76,17 @@ impl<S: Source, M: Machine> Layered<S, M> {
         }
     }
 
-    // A whole request: advances until something is heard.
-    fn turn(&mut self, grant: u32) -> Hearing
+    // A whole request: advances until something is told.
+    fn turn(&mut self, grant: u32) -> Answer<Told<Line>>
         requires { grant ≤ 1000000 }
-        ensures { Turned M.Machine.rule S.Source.meaning S.Source.tick (keeping M.Machine.state S.Source.kept self.old) (keeping M.Machine.state S.Source.kept self.new) grant result }
+        ensures { Turned M.rule S.meaning S.tick (keeping M.state S.kept self.old) (keeping M.state S.kept self.new) grant result }
     {
         let mut spent = 0;
         loop {
-            let advance = self.advance(grant - spent);
-            spent += advance.spent;
-            if let Some(heard) = advance.heard {
-                return Hearing { spent, heard };
+            let Answer { spent: more, told } = self.advance(grant - spent);
+            spent += more;
+            if let Some(told) = told {
+                return Answer { spent, told };
             }
         }
     }
@@ -133,9 +94,9 @@ impl<S: Source, M: Machine> Layered<S, M> {
 
 // A fresh layer over a source.
 pub fn over<S: Source, M: Machine>(below: S, machine: M) -> Layered<S, M>
-    ensures kept { keeping M.Machine.state S.Source.kept result ≡ laid None (M.Machine.state machine) (S.Source.kept below) }
-    ensures meaning { laid_meaning M.Machine.rule S.Source.meaning (keeping M.Machine.state S.Source.kept result) ≡ layered M.Machine.rule (M.Machine.state machine) (S.Source.meaning (S.Source.kept below)) }
-    ensures untold { Untold (S.Source.meaning (S.Source.kept below)) → Untold (laid_meaning M.Machine.rule S.Source.meaning (keeping M.Machine.state S.Source.kept result)) }
+    ensures kept { keeping M.state S.kept result ≡ laid None (M.state machine) (S.kept below) }
+    ensures meaning { laid_meaning M.rule S.meaning (keeping M.state S.kept result) ≡ layered M.rule (M.state machine) (S.meaning (S.kept below)) }
+    ensures untold { Untold (S.meaning (S.kept below)) → Untold (laid_meaning M.rule S.meaning (keeping M.state S.kept result)) }
 {
     Layered {
         below,
@@ -145,21 +106,18 @@ pub fn over<S: Source, M: Machine>(below: S, machine: M) -> Layered<S, M>
 }
 
 impl<S: Source, M: Machine> Source for Layered<S, M> {
-    ghost Kept = { Laid M.Machine.State S.Source.Kept };
+    ghost Kept = { Laid M.State S.Kept };
 
-    ghost kept = { keeping M.Machine.state S.Source.kept };
+    ghost kept = { keeping M.state S.kept };
 
-    ghost meaning = { laid_meaning M.Machine.rule S.Source.meaning };
+    ghost meaning = { laid_meaning M.rule S.meaning };
 
-    ghost tick = { laid_tick M.Machine.rule S.Source.meaning S.Source.tick };
+    ghost tick = { laid_tick M.rule S.meaning S.tick };
 
-    ghost paced = { laid_paced M.Machine.rule M.Machine.falls S.Source.meaning S.Source.tick S.Source.paced };
+    ghost paced = { laid_paced M.rule M.falls S.meaning S.tick S.paced };
 
-    fn next(&mut self, buffer: &mut [u8], grant: u32) -> Result<Answer, Refusal> {
-        if let Some(refused) = refusal(buffer, grant) {
-            return Err(refused);
-        }
-        let hearing = self.turn(grant);
-        deliver(&hearing, buffer)
+    fn next(&mut self, buffer: &mut [u8], grant: u32) -> Reply {
+        admit(buffer, grant)?;
+        deliver(&self.turn(grant), buffer)
     }
 }

@@ -1,34 +1,19 @@
 -- What lawful definitions and their statements are, by number.
-use Rattle.std.proofs.Common.{◌≡◌, ℕ, zero, suc, ◌≤◌, Bool, true, false, ◌&&◌, leb, List, [], ◌∷◌, length, Some, None, Option, sym, refl, ap, ◌∙◌, arith}
-use mathlib.Core.Bool.{false≢true}
+use Rattle.std.proofs.Common.{◌≡◌, ℕ, zero, suc, ◌≤◌, Bool, true, ◌&&◌, leb, List, [], ◌∷◌, length, Some, None, Option, refl, arith}
 use Rattle.std.proofs.lemmas.Bool.{and_parts, leb-true}
 use Rattle.libraries.specs.Checks.{line_fits}
 use Rattle.libraries.specs.Definitions.{Definition, every, Lawful, lawful_definition, mended}
 use Rattle.libraries.specs.Lookups.{item, numbered, statement_in, statement_or}
 use Rattle.libraries.specs.Prototypes.{lawful_prototype}
 
-none_not : {A B : Type 0} (x : A) → None ≡ Some x → B
-none_not {A} x e = absurd (false≢true (ap has e))
-  where
-    has : Option A → Bool
-    has None = false
-    has (Some y) = true
-
-some_is : {A : Type 0} (x y : A) → ◌≡◌ {A = Option A} (Some x) (Some y) → x ≡ y
-some_is {A} x y e = ap get e
-  where
-    get : Option A → A
-    get None = x
-    get (Some z) = z
-
 module _ {A : Type 0} (p : A → Bool) where
   every_item : (xs : List A) (k : ℕ) (x : A) → every p xs ≡ true → item xs k ≡ Some x → p x ≡ true
-  every_item [] k x h e = none_not x e
-  every_item (y ∷ ys) zero x h e = ap p (sym (some_is y x e)) ∙ (and_parts (p y) (every p ys) h).0
+  every_item [] k x h e = cc
+  every_item (y ∷ ys) zero x h e = let first = (and_parts (p y) (every p ys) h).0 in cc
   every_item (y ∷ ys) (suc k) x h e = every_item ys k x (and_parts (p y) (every p ys) h).1 e
 
   every_numbered : (xs : List A) (n : ℕ) (x : A) → every p xs ≡ true → numbered xs n ≡ Some x → p x ≡ true
-  every_numbered xs zero x h e = none_not x e
+  every_numbered xs zero x h e = cc
   every_numbered xs (suc k) x h e = every_item xs k x h e
 
 pub definition_lawful : (ds : List Definition) (n : ℕ) (d : Definition) → Lawful ds → numbered ds n ≡ Some d → lawful_definition d ≡ true
@@ -56,5 +41,5 @@ unfolding statement_in
 statement_fits ds n s t l e = go (numbered ds n) refl e
   where
     go : (x : Option Definition) → numbered ds n ≡ x → statement_or x s ≡ Some t → line_fits t ≡ true
-    go None w h = none_not t h
+    go None w h = cc
     go (Some d) w h = every_numbered line_fits d s t (definition_fits d (definition_lawful ds n d l w)) h

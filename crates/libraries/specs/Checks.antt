@@ -1,5 +1,5 @@
 -- The check of a library text: the first no, with its number and its line.
-use Rattle.std.specs.Prelude.{ℕ, ◌+◌, Bool, true, false, cond, not, ◌&&◌, List, [], ◌∷◌, ◌++◌, length, Some, None, Ok, Err, Option, Result, ◌==◌, nat_le, nat_lt}
+use Rattle.std.specs.Prelude.{ℕ, ◌+◌, Bool, true, false, cond, ◌&&◌, List, [], ◌∷◌, ◌++◌, length, Some, None, Ok, Err, Option, Result, ◌==◌, nat_le, nat_lt}
 use Rattle.lines.specs.Characters.{characters}
 use Rattle.lines.specs.Fields.{word, operation_of, operand_of}
 use Rattle.lines.specs.Kinds.{kind_of}
@@ -8,7 +8,7 @@ use Rattle.lines.specs.Statements.{remark}
 use Rattle.lines.specs.declared.kinds.Kind.{Kind}
 use Rattle.lines.specs.declared.kinds.Kind.TheVariants.{Declaration, Assignment, Branch, Jump, Label, Exit, Mend, Note, Opening, Closing, Model}
 use Rattle.sources.specs.Faults.{counted}
-use Rattle.sources.specs.Texts.{lines_of}
+use Rattle.lines.specs.Texts.{lines_of}
 use Rattle.libraries.specs.declared.flaws.LibraryCause.{LibraryCause}
 use Rattle.libraries.specs.declared.flaws.LibraryCause.TheVariants.{BadLine, NoMacro, BadPrototype, SameName, Nested, NoMend, TooMany}
 use Rattle.libraries.specs.declared.flaws.LibraryFault.{LibraryFault}
@@ -46,20 +46,14 @@ bad_from n e [] = None
 bad_from n e (t ∷ []) = cond (line_fits t && e) None (Some (counted n))
 bad_from n e (t ∷ (u ∷ us)) = cond (line_fits t) (bad_from (counted n) e (u ∷ us)) (Some (counted n))
 
--- how far a text is read: between definitions, after MACRO, or inside a definition
+-- how far a text is read: the phase, and the macro names so far, at most 255
 pub record Reading : Type 0 where
   pub phase : Phase
-  -- the macro names so far, at most 255
   pub names : List (List ℕ)
-  -- the definition being read is past the 255th
-  pub over : Bool
-  -- the line of its MACRO
-  pub opened : ℕ
-  -- how many of its statements are read
-  pub statements : ℕ
 
-abbrev pub reading : Phase → List (List ℕ) → Bool → ℕ → ℕ → Reading
-reading p ns o l s = record { phase = p; names = ns; over = o; opened = l; statements = s }
+-- the phase and the names, as one
+abbrev pub reading : Phase → List (List ℕ) → Reading
+reading p ns = record { phase = p; names = ns }
 
 -- what a statement of a body does: opens or ends something else, ends the definition, or neither
 abbrev pub stops : Kind → Bool
@@ -113,36 +107,44 @@ is_opening t = opens (kind_of (operation_of t)) && (length (word t) == 0 && leng
 abbrev pub noted : List (List ℕ) → List ℕ → List (List ℕ)
 noted names t = cond (nat_lt (length names) 255) (names ++ padded (operation_of t) ∷ []) names
 
+-- the line of a definition's MACRO, if it is past the 255th: no name had room
+abbrev pub past_last : List (List ℕ) → ℕ → Option ℕ
+past_last names m = cond (nat_lt (length names) 255) None (Some m)
+
 -- the line with this number, in each phase
 abbrev pub read_opening : Reading → ℕ → List ℕ → Result Reading LibraryFault
-read_opening r n t = cond (is_opening t) (Ok (reading Opened r.names false n 0)) (Err (flaw NoMacro n))
+read_opening r n t = cond (is_opening t) (Ok (reading (Opened n) r.names)) (Err (flaw NoMacro n))
 
-abbrev pub read_prototype : Reading → ℕ → List ℕ → Result Reading LibraryFault
-read_prototype r n t =
+-- the line after MACRO, which stood in line m
+abbrev pub read_prototype : Reading → ℕ → ℕ → List ℕ → Result Reading LibraryFault
+read_prototype r m n t =
     cond (lawful_prototype t)
     (cond (among (padded (operation_of t)) r.names) (Err (flaw SameName n))
-    (Ok (reading Inside (noted r.names t) (not (nat_lt (length r.names) 255)) r.opened 1)))
+    (Ok (reading (Inside 1 (past_last r.names m)) (noted r.names t))))
     (Err (flaw BadPrototype n))
 
-abbrev pub closing : Reading → Result Reading LibraryFault
-closing r = cond r.over (Err (flaw TooMany r.opened)) (Ok (reading Between r.names false 0 0))
+-- MEND: told of a definition that is past the 255th is the line of its MACRO
+abbrev pub closing : Reading → Option ℕ → Result Reading LibraryFault
+closing r None = Ok (reading Between r.names)
+closing r (Some m) = Err (flaw TooMany m)
 
-abbrev pub read_body : Reading → ℕ → List ℕ → Result Reading LibraryFault
-read_body r n t =
+-- a line of a body of which k statements are read
+abbrev pub read_body : Reading → ℕ → Option ℕ → ℕ → List ℕ → Result Reading LibraryFault
+read_body r k past n t =
     cond (stops (body_kind t)) (Err (flaw Nested n))
-    (cond (ends (body_kind t)) (closing r)
-    (cond (nat_lt r.statements 254) (Ok (reading Inside r.names r.over r.opened (r.statements + 1))) (Err (flaw NoMend n))))
+    (cond (ends (body_kind t)) (closing r past)
+    (cond (nat_lt k 254) (Ok (reading (Inside (k + 1) past) r.names)) (Err (flaw NoMend n))))
 
 abbrev pub read_in : Phase → Reading → ℕ → List ℕ → Result Reading LibraryFault
 read_in Between r n t = read_opening r n t
-read_in Opened r n t = read_prototype r n t
-read_in Inside r n t = read_body r n t
+read_in (Opened m) r n t = read_prototype r m n t
+read_in (Inside k past) r n t = read_body r k past n t
 
 -- the text ends here, with this line the last
 abbrev pub finish : Phase → ℕ → Option LibraryFault
 finish Between n = None
-finish Opened n = Some (flaw BadPrototype n)
-finish Inside n = Some (flaw NoMend n)
+finish (Opened m) n = Some (flaw BadPrototype n)
+finish (Inside k past) n = Some (flaw NoMend n)
 
 abbrev pub read_on : Result Reading LibraryFault → (Reading → Option LibraryFault) → Option LibraryFault
 read_on (Ok r) go = go r
@@ -156,7 +158,7 @@ read_from n (t ∷ ts) r = read_on (read_in r.phase r (counted n) t) (read_from 
 -- what is wrong with a library text, if anything
 abbrev pub or_read : Option ℕ → List ℕ → Option LibraryFault
 or_read (Some n) text = Some (flaw BadLine n)
-or_read None text = read_from 0 (lines_of text) (reading Between [] false 0 0)
+or_read None text = read_from 0 (lines_of text) (reading Between [])
 
 abbrev pub check_of : List ℕ → Option LibraryFault
 check_of text = or_read (bad_from 0 (ended text) (lines_of text)) text

@@ -2,7 +2,7 @@
 use Rattle.std.specs.Prelude.{◌≡◌, ℕ, ◌≤◌, Bool, true, false, cond, not, ◌&&◌, List, [], ◌∷◌, ◌++◌, length, Some, None, Option, nat_le, slice_index_or}
 use Rattle.lines.specs.Fields.{operation_of}
 use Rattle.lines.specs.Names.{padded}
-use Rattle.sources.specs.Texts.{lines_of}
+use Rattle.lines.specs.Texts.{lines_of}
 use Rattle.libraries.specs.declared.flaws.LibraryFault.{LibraryFault}
 use Rattle.libraries.specs.Checks.{body_kind, check_of, ends, is_opening, line_fits, stops}
 use Rattle.libraries.specs.Prototypes.{lawful_prototype}

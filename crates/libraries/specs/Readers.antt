@@ -1,7 +1,8 @@
--- How far the code has read.
-use Rattle.libraries.specs.declared.reader.Reader.{Reader}
-use Rattle.libraries.specs.Checks.{Reading, reading}
-use Rattle.libraries.specs.Tables.{rows_of}
+-- How the code that reads a library text answers.
+use Rattle.std.specs.Prelude.{◌≡◌, Ok, Err, Result, MatchResult}
+use Rattle.libraries.specs.declared.flaws.LibraryFault.{LibraryFault}
+use Rattle.libraries.specs.Checks.{Reading}
 
-abbrev pub reading_of : Reader → Reading
-reading_of r = reading r.phase (rows_of r.names.rows r.names.count) r.over r.opened r.statements
+-- the code reads on as the definition does, or tells the same fault
+abbrev pub ReadsOn : Result Reading LibraryFault → Result (Unit {0}) LibraryFault → Reading → Type 0
+ReadsOn told result now = MatchResult result (λ _. told ≡ Ok now) (λ f. told ≡ Err f)

@@ -1,12 +1,8 @@
--- Names in a table.
-use Rattle.std.specs.Prelude.{ℕ, Bool, false, ◌||◌, List, [], ◌∷◌, take}
+-- Names in a list.
+use Rattle.std.specs.Prelude.{ℕ, Bool, List}
+use Rattle.std.specs.List.{list_any}
 use Rattle.std.specs.Str.{bytes_eq}
 
 -- the name is one of these
 abbrev pub among : List ℕ → List (List ℕ) → Bool
-among n [] = false
-among n (x ∷ xs) = bytes_eq x n || among n xs
-
--- the names in a table of which so many rows are in use
-abbrev pub rows_of : List (List ℕ) → ℕ → List (List ℕ)
-rows_of rows n = take n rows
+among n xs = list_any (λ x. bytes_eq x n) xs

@@ -1,17 +1,15 @@
 // The check of a library text.
-ghost use Rattle.std.specs.Prelude.{◌≡◌, false, [], Some, None, Ok, Err, MatchResult};
-ghost use Rattle.sources.specs.Texts.{lines_of};
-ghost use Rattle.libraries.specs.Checks.{bad_from, body_kind, check_of, closing, ended, ends, finish, flaw, is_opening, library_number, line_fits, opens, read_body, read_from, read_in, read_opening, read_prototype, reading, stops};
+ghost use Rattle.std.specs.Prelude.{◌≡◌, [], Some, None, MatchResult};
+ghost use Rattle.lines.specs.Texts.{lines_of};
+ghost use Rattle.libraries.specs.Checks.{bad_from, body_kind, check_of, closing, ended, ends, finish, flaw, is_opening, library_number, line_fits, read_body, read_from, read_in, read_opening, read_prototype, reading};
 ghost use Rattle.libraries.specs.Definitions.{LibraryText};
-ghost use Rattle.libraries.specs.Readers.{reading_of};
+ghost use Rattle.libraries.specs.Readers.{ReadsOn};
 
 use crate::flaws::{LibraryCause, LibraryFault, Phase};
 use crate::prototypes::is_prototype;
 use crate::reader::Reader;
-use crate::table::Names;
 use lines::{
-    Kind, LINE_END, after_byte, all_characters, fields_of, first_at, front, is_remark, kind_of,
-    operation, padded_name,
+    Kind, LINE_END, Lines, all_characters, fields_of, is_remark, kind_of, operation, padded_name,
 };
 use sources::faults::count_line;
 
@@ -21,11 +19,11 @@ pub const STATEMENT_BYTES: usize = 71;
 // A definition has at most so many statements before its MEND.
 const BODY_STATEMENTS: u16 = 254;
 
-impl LibraryCause {
-    pub fn number(self) -> u16
-        ensures { result ≡ library_number self }
-    {
-        match self {
+impl From<LibraryCause> for u16 {
+    ghost from_gives = { λ cause number. number ≡ library_number cause };
+
+    fn from(cause: LibraryCause) -> u16 {
+        match cause {
             LibraryCause::BadLine => 10,
             LibraryCause::NoMacro => 11,
             LibraryCause::BadPrototype => 12,
@@ -41,38 +39,7 @@ impl LibraryCause {
 fn line_fits(line: &[u8]) -> bool
     ensures { result ≡ line_fits line.now }
 {
-    (line.len() <= STATEMENT_BYTES) & all_characters(line)
-}
-
-// MACRO, END or BEND?
-fn is_stop(kind: Kind) -> bool
-    ensures { result ≡ stops kind }
-{
-    match kind {
-        Kind::Opening => true,
-        Kind::Closing => true,
-        _ => false,
-    }
-}
-
-// MEND?
-fn is_mend(kind: Kind) -> bool
-    ensures { result ≡ ends kind }
-{
-    match kind {
-        Kind::Mend => true,
-        _ => false,
-    }
-}
-
-// MACRO?
-fn is_macro(kind: Kind) -> bool
-    ensures { result ≡ opens kind }
-{
-    match kind {
-        Kind::Opening => true,
-        _ => false,
-    }
+    line.len() <= STATEMENT_BYTES && all_characters(line)
 }
 
 // A MACRO line, without name or operand?
@@ -82,8 +49,9 @@ fn is_opening(line: &[u8]) -> bool
     let Some(fields) = fields_of(line) else {
         return false;
     };
-    is_macro(kind_of(fields.operation.bytes))
-        & ((fields.name.bytes.len() == 0) & (fields.operand.bytes.len() == 0))
+    matches!(kind_of(fields.operation.bytes), Kind::Opening)
+        && fields.name.bytes.is_empty()
+        && fields.operand.bytes.is_empty()
 }
 
 // The kind of a statement of a body.
@@ -100,7 +68,7 @@ fn body_kind(line: &[u8]) -> Kind
 pub fn ends_definition(line: &[u8]) -> bool
     ensures { result ≡ ends (body_kind line.now) }
 {
-    is_mend(body_kind(line))
+    matches!(body_kind(line), Kind::Mend)
 }
 
 fn fault(cause: LibraryCause, line: u32) -> LibraryFault
@@ -110,154 +78,143 @@ fn fault(cause: LibraryCause, line: u32) -> LibraryFault
 }
 
 impl Reader {
-    // Nothing read yet.
-    fn start() -> Reader
-        ensures { reading_of result ≡ reading Phase.Between [] false 0 0 }
-    {
-        Reader {
-            phase: Phase::Between,
-            names: Names::none(),
-            over: false,
-            opened: 0,
-            statements: 0,
-        }
-    }
-
     // A line where a definition could begin.
     fn read_opening(&mut self, number: u32, line: &[u8]) -> Result<(), LibraryFault>
-        ensures { MatchResult result (λ _. read_opening (reading_of self.old) number line.now ≡ Ok (reading_of self.new)) (λ f. read_opening (reading_of self.old) number line.now ≡ Err f) }
+        ensures { ReadsOn (read_opening self.old number line.now) result self.new }
     {
         if !is_opening(line) {
             return Err(fault(LibraryCause::NoMacro, number));
         }
-        self.phase = Phase::Opened;
-        self.over = false;
-        self.opened = number;
-        self.statements = 0;
+        self.phase = Phase::Opened { macro_line: number };
         Ok(())
     }
 
     // The line after MACRO.
-    fn read_prototype(&mut self, number: u32, line: &[u8]) -> Result<(), LibraryFault>
-        ensures { MatchResult result (λ _. read_prototype (reading_of self.old) number line.now ≡ Ok (reading_of self.new)) (λ f. read_prototype (reading_of self.old) number line.now ≡ Err f) }
+    fn read_prototype(
+        &mut self,
+        macro_line: u32,
+        number: u32,
+        line: &[u8],
+    ) -> Result<(), LibraryFault>
+        ensures { ReadsOn (read_prototype self.old macro_line number line.now) result self.new }
     {
         if !is_prototype(line) {
             return Err(fault(LibraryCause::BadPrototype, number));
         }
         let name = padded_name(operation(line));
-        if self.names.has(name) {
+        if self.names.as_slice().contains(&name) {
             return Err(fault(LibraryCause::SameName, number));
         }
-        let added = self.names.add(name);
-        self.phase = Phase::Inside;
-        self.over = !added;
-        self.statements = 1;
+        let past_last = match self.names.try_push(name) {
+            Ok(()) => None,
+            Err(_) => Some(macro_line),
+        };
+        self.phase = Phase::Inside {
+            statements: 1,
+            past_last,
+        };
         Ok(())
     }
 
     // A line of a body.
-    fn read_body(&mut self, number: u32, line: &[u8]) -> Result<(), LibraryFault>
-        ensures { MatchResult result (λ _. read_body (reading_of self.old) number line.now ≡ Ok (reading_of self.new)) (λ f. read_body (reading_of self.old) number line.now ≡ Err f) }
+    fn read_body(
+        &mut self,
+        statements: u16,
+        past_last: Option<u32>,
+        number: u32,
+        line: &[u8],
+    ) -> Result<(), LibraryFault>
+        ensures { ReadsOn (read_body self.old statements past_last number line.now) result self.new }
     {
-        let kind = body_kind(line);
-        if is_stop(kind) {
-            return Err(fault(LibraryCause::Nested, number));
+        match body_kind(line) {
+            Kind::Opening | Kind::Closing => Err(fault(LibraryCause::Nested, number)),
+            Kind::Mend => self.close(past_last),
+            _ if statements >= BODY_STATEMENTS => Err(fault(LibraryCause::NoMend, number)),
+            _ => {
+                self.phase = Phase::Inside {
+                    statements: statements + 1,
+                    past_last,
+                };
+                Ok(())
+            }
         }
-        if is_mend(kind) {
-            return self.close();
-        }
-        if self.statements >= BODY_STATEMENTS {
-            return Err(fault(LibraryCause::NoMend, number));
-        }
-        self.phase = Phase::Inside;
-        self.statements += 1;
-        Ok(())
     }
 
     // MEND of the definition being read.
-    fn close(&mut self) -> Result<(), LibraryFault>
-        ensures { MatchResult result (λ _. closing (reading_of self.old) ≡ Ok (reading_of self.new)) (λ f. closing (reading_of self.old) ≡ Err f) }
+    fn close(&mut self, past_last: Option<u32>) -> Result<(), LibraryFault>
+        ensures { ReadsOn (closing self.old past_last) result self.new }
     {
-        if self.over {
-            return Err(fault(LibraryCause::TooMany, self.opened));
+        if let Some(macro_line) = past_last {
+            return Err(fault(LibraryCause::TooMany, macro_line));
         }
         self.phase = Phase::Between;
-        self.over = false;
-        self.opened = 0;
-        self.statements = 0;
         Ok(())
     }
 
     // One line more, with its number.
     fn read(&mut self, number: u32, line: &[u8]) -> Result<(), LibraryFault>
-        ensures { MatchResult result (λ _. read_in self.old.phase (reading_of self.old) number line.now ≡ Ok (reading_of self.new)) (λ f. read_in self.old.phase (reading_of self.old) number line.now ≡ Err f) }
+        ensures { ReadsOn (read_in self.old.phase self.old number line.now) result self.new }
     {
         match self.phase {
             Phase::Between => self.read_opening(number, line),
-            Phase::Opened => self.read_prototype(number, line),
-            Phase::Inside => self.read_body(number, line),
+            Phase::Opened { macro_line } => self.read_prototype(macro_line, number, line),
+            Phase::Inside {
+                statements,
+                past_last,
+            } => self.read_body(statements, past_last, number, line),
         }
     }
-}
 
-impl Reader {
     // The text ends after this line.
-    fn finish(&self, last: u32) -> Option<LibraryFault>
-        ensures { result ≡ finish self.now.phase last }
+    fn finish(&self, last: u32) -> Result<(), LibraryFault>
+        ensures { MatchResult result (λ _. finish self.now.phase last ≡ None) (λ f. finish self.now.phase last ≡ Some f) }
     {
         match self.phase {
-            Phase::Between => None,
-            Phase::Opened => Some(fault(LibraryCause::BadPrototype, last)),
-            Phase::Inside => Some(fault(LibraryCause::NoMend, last)),
+            Phase::Between => Ok(()),
+            Phase::Opened { .. } => Err(fault(LibraryCause::BadPrototype, last)),
+            Phase::Inside { .. } => Err(fault(LibraryCause::NoMend, last)),
         }
     }
 }
 
-// The number of the first line that does not fit or is not ended.
-fn bad_line(text: &[u8]) -> Option<u32>
-    ensures { result ≡ bad_from 0 (ended text.now) (lines_of text.now) }
+// Is the last line ended, if there is one?
+fn is_ended(text: &[u8]) -> bool
+    ensures { result ≡ ended text.now }
 {
-    let mut rest = text;
-    let mut taken = 0;
-    while rest.len() > 0 {
-        let end = first_at(rest, LINE_END);
-        let whole = end < rest.len();
-        taken = count_line(taken);
-        let fine = line_fits(front(rest, end)) & whole;
-        if !fine {
-            return Some(taken);
-        }
-        rest = after_byte(rest, end);
+    match text.last() {
+        Some(last) => *last == LINE_END,
+        None => true,
     }
-    None
 }
 
-// What is wrong with the definitions of a text whose lines fit.
-fn bad_definition(text: &[u8]) -> Option<LibraryFault>
-    ensures { result ≡ read_from 0 (lines_of text.now) (reading Phase.Between [] false 0 0) }
+// Does each line fit, and is the last one ended?
+fn check_lines(text: &[u8]) -> Result<(), LibraryFault>
+    ensures { MatchResult result (λ _. bad_from 0 (ended text.now) (lines_of text.now) ≡ None) (λ f. (f.cause ≡ LibraryCause.BadLine) × (bad_from 0 (ended text.now) (lines_of text.now) ≡ Some f.line)) }
 {
-    let mut reader = Reader::start();
-    let mut rest = text;
     let mut taken = 0;
-    while rest.len() > 0 {
-        let end = first_at(rest, LINE_END);
+    for line in Lines::of(text) {
         taken = count_line(taken);
-        if let Err(found) = reader.read(taken, front(rest, end)) {
-            return Some(found);
+        if !line_fits(line) {
+            return Err(fault(LibraryCause::BadLine, taken));
         }
-        rest = after_byte(rest, end);
+    }
+    if !is_ended(text) {
+        return Err(fault(LibraryCause::BadLine, taken));
+    }
+    Ok(())
+}
+
+// Are the definitions of a text whose lines fit lawful?
+fn check_definitions(text: &[u8]) -> Result<(), LibraryFault>
+    ensures { MatchResult result (λ _. read_from 0 (lines_of text.now) (reading Phase.Between []) ≡ None) (λ f. read_from 0 (lines_of text.now) (reading Phase.Between []) ≡ Some f) }
+{
+    let mut reader = Reader::default();
+    let mut taken = 0;
+    for line in Lines::of(text) {
+        taken = count_line(taken);
+        reader.read(taken, line)?;
     }
     reader.finish(taken)
-}
-
-// What is wrong first: a line, or else a definition.
-fn first_fault(text: &[u8]) -> Option<LibraryFault>
-    ensures { result ≡ check_of text.now }
-{
-    match bad_line(text) {
-        Some(line) => Some(fault(LibraryCause::BadLine, line)),
-        None => bad_definition(text),
-    }
 }
 
 // Is the text a lawful library? If not, what is wrong first, and in which line.
@@ -265,8 +222,6 @@ pub fn check_text(text: &[u8]) -> Result<(), LibraryFault>
     ensures first { MatchResult result (λ _. check_of text.now ≡ None) (λ f. check_of text.now ≡ Some f) }
     ensures lawful { MatchResult result (λ _. LibraryText text.now) (λ _. (LibraryText text.now → ⊥)) }
 {
-    match first_fault(text) {
-        Some(found) => Err(found),
-        None => Ok(()),
-    }
+    check_lines(text)?;
+    check_definitions(text)
 }

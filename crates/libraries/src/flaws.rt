@@ -1,5 +1,5 @@
 // What is wrong with a library text, and how far one is read.
-#[derive(Clone, Copy)]
+#[derive(Clone, Copy, Debug, PartialEq, Eq)]
 pub enum LibraryCause {
     // a line is not ended, has over 71 bytes, or one that is no character
     BadLine,
@@ -16,18 +16,25 @@ pub enum LibraryCause {
     TooMany,
 }
 
-#[derive(Clone, Copy)]
+#[derive(Clone, Copy, Debug, PartialEq, Eq)]
 pub struct LibraryFault {
     pub cause: LibraryCause,
     pub line: u32,
 }
 
-#[derive(Clone, Copy)]
+#[derive(Clone, Copy, Debug, Default, PartialEq, Eq)]
 pub enum Phase {
     // between definitions
+    #[default]
     Between,
-    // after MACRO
-    Opened,
-    // inside a definition
-    Inside,
+    // after MACRO, which stands in this line
+    Opened {
+        macro_line: u32,
+    },
+    // inside a definition: how many of its statements are read, and the line of its MACRO if it is past the last that a
+    // library may have
+    Inside {
+        statements: u16,
+        past_last: Option<u32>,
+    },
 }

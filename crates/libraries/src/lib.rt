@@ -4,13 +4,11 @@
 pub mod check;
 pub mod flaws;
 pub mod library;
-pub mod names;
 pub mod parameters;
 pub mod prototypes;
 pub mod reader;
 pub mod refusals;
 pub mod seen;
-pub mod table;
 pub mod words;
 
 pub use check::{check_text, ends_definition};

@@ -1,6 +1,6 @@
 // Lawful prototypes.
 ghost use Rattle.std.specs.Prelude.{◌≡◌};
-ghost use Rattle.libraries.specs.Prototypes.{is_default, is_macro_name, is_model, is_parameter, lawful_prototype};
+ghost use Rattle.libraries.specs.Prototypes.{is_default, is_macro_name, is_parameter, lawful_prototype};
 
 use crate::parameters::{parameters_fit, seen_in_name};
 use crate::words::{is_system, is_variable, is_word};
@@ -20,31 +20,21 @@ pub(crate) const EQUALS: u8 = 61;
 pub(crate) fn is_parameter(bytes: &[u8]) -> bool
     ensures { result ≡ is_parameter bytes.now }
 {
-    is_variable(bytes) & !is_system(bytes)
+    is_variable(bytes) && !is_system(bytes)
 }
 
 // At most 48 characters, closed?
 pub(crate) fn is_default(bytes: &[u8]) -> bool
     ensures { result ≡ is_default bytes.now }
 {
-    (bytes.len() <= VALUE_BYTES) & is_closed(bytes)
-}
-
-// No operation with a meaning of its own?
-fn is_model(kind: Kind) -> bool
-    ensures { result ≡ is_model kind }
-{
-    match kind {
-        Kind::Model => true,
-        _ => false,
-    }
+    bytes.len() <= VALUE_BYTES && is_closed(bytes)
 }
 
 // One to eight letters or digits, first a letter, and not reserved?
 fn is_macro_name(bytes: &[u8]) -> bool
     ensures { result ≡ is_macro_name bytes.now }
 {
-    is_word(bytes) & ((bytes.len() <= MACRO_NAME_BYTES) & is_model(kind_of(bytes)))
+    is_word(bytes) && bytes.len() <= MACRO_NAME_BYTES && matches!(kind_of(bytes), Kind::Model)
 }
 
 // Is the line a lawful prototype?
@@ -57,5 +47,5 @@ pub fn is_prototype(line: &[u8]) -> bool
     let Some(seen) = seen_in_name(fields.name.bytes) else {
         return false;
     };
-    is_macro_name(fields.operation.bytes) & parameters_fit(fields.operand.bytes, seen)
+    is_macro_name(fields.operation.bytes) && parameters_fit(fields.operand.bytes, seen)
 }

@@ -3,7 +3,7 @@ ghost use Rattle.std.specs.Prelude.{◌≡◌};
 ghost use Rattle.libraries.specs.Lookups.{library_refusal_number};
 
 // A bad call. Its number is `library_refusal_number` of specs/Lookups.
-#[derive(Clone, Copy)]
+#[derive(Clone, Copy, Debug, PartialEq, Eq)]
 pub enum LibraryRefusal {
     // the buffer has no room for a line
     ShortBuffer,
@@ -13,11 +13,11 @@ pub enum LibraryRefusal {
     NoRoom,
 }
 
-impl LibraryRefusal {
-    pub fn number(self) -> u16
-        ensures { result ≡ library_refusal_number self }
-    {
-        match self {
+impl From<LibraryRefusal> for u16 {
+    ghost from_gives = { λ refusal number. number ≡ library_refusal_number refusal };
+
+    fn from(refusal: LibraryRefusal) -> u16 {
+        match refusal {
             LibraryRefusal::ShortBuffer => 1,
             LibraryRefusal::Missing => 6,
             LibraryRefusal::NoRoom => 17,

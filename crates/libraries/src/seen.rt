@@ -1,10 +1,11 @@
 // The parameters of a prototype that were seen so far.
 use crate::prototypes::PARAMETERS;
-use crate::table::Names;
+use arrayvec::ArrayVec;
+use lines::NAME_BYTES;
 
-#[derive(Clone, Copy)]
+#[derive(Drop)]
 pub struct Seen {
-    pub(crate) names: Names<PARAMETERS>,
+    pub(crate) names: ArrayVec<[u8; NAME_BYTES], PARAMETERS>,
     // a keyword parameter was seen
     pub(crate) late: bool,
 }

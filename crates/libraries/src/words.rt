@@ -1,11 +1,10 @@
 // Words and symbols.
 ghost use Rattle.std.specs.Prelude.{◌≡◌};
-ghost use Rattle.lines.specs.Characters.{all_by};
+ghost use Rattle.std.specs.List.{list_all};
 ghost use Rattle.expressions.specs.Classes.{letter_or_digit};
 ghost use Rattle.libraries.specs.Words.{is_system, is_variable, is_word};
 
 use expressions::classes::{is_letter, is_letter_or_digit};
-use lines::front;
 
 const PERCENT: u8 = 37;
 
@@ -15,40 +14,34 @@ const SYSTEM: &[u8] = b"%SYS";
 
 // Letters and digits only?
 fn is_plain(bytes: &[u8]) -> bool
-    ensures { result ≡ all_by letter_or_digit bytes.now }
+    ensures { result ≡ list_all letter_or_digit bytes.now }
 {
-    for byte in bytes {
-        if !is_letter_or_digit(*byte) {
-            return false;
-        }
-    }
-    true
+    bytes.iter().all(|byte| is_letter_or_digit(*byte))
 }
 
 // A letter, and then letters and digits?
 pub(crate) fn is_word(bytes: &[u8]) -> bool
     ensures { result ≡ is_word bytes.now }
 {
-    if bytes.len() == 0 {
+    let [first, rest @ ..] = bytes else {
         return false;
-    }
-    is_letter(bytes[0]) & is_plain(&bytes[1..])
+    };
+    is_letter(*first) && is_plain(rest)
 }
 
 // A variable symbol?
 pub(crate) fn is_variable(bytes: &[u8]) -> bool
     ensures { result ≡ is_variable bytes.now }
 {
-    if bytes.len() == 0 {
+    let [first, rest @ ..] = bytes else {
         return false;
-    }
-    let rest = &bytes[1..];
-    (bytes[0] == PERCENT) & (is_word(rest) & (rest.len() <= SYMBOL_LETTERS))
+    };
+    *first == PERCENT && is_word(rest) && rest.len() <= SYMBOL_LETTERS
 }
 
 // A symbol of the processor's own?
 pub(crate) fn is_system(bytes: &[u8]) -> bool
     ensures { result ≡ is_system bytes.now }
 {
-    front(bytes, SYSTEM.len()) == SYSTEM
+    bytes.starts_with(SYSTEM)
 }

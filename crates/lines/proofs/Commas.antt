@@ -1,6 +1,7 @@
 -- Dividing at commas.
-use Rattle.std.proofs.Common.{◌≡◌, ℕ, zero, suc, ◌+◌, ◌<◌, Bool, true, false, cond, ◌&&◌, eqb, ltb, List, [], ◌∷◌, ◌++◌, length, take, drop, sym, refl, ap, ◌∙◌, subst, ap₂, suc-add, arith, length-drop}
-use Rattle.std.proofs.lemmas.Bool.{eqb-true, and_parts, lt-ltb, ltb-true}
+use Rattle.std.proofs.Common.{◌≡◌, ℕ, zero, suc, ◌+◌, ◌<◌, Bool, true, false, cond, ◌&&◌, eqb, ltb, List, [], ◌∷◌, ◌++◌, length, take, drop, sym, refl, ap, ◌∙◌, subst, ap₂, suc-add, ◌-◌, ◌≤◌, ◌∙◌, arith, length-drop, drop-drop}
+use Rattle.std.proofs.lemmas.Bool.{eqb-true, and_parts, lt-ltb, le-ltb, ltb-true}
+use Rattle.std.proofs.lemmas.List.{take_rest}
 use Rattle.std.proofs.lemmas.Bool.Decides.{nat_tests}
 use Rattle.lines.specs.declared.nest.Nest.{Nest}
 use Rattle.lines.specs.Division.{before, divided_from, divided, parts_after, with_commas, Clear, Divided}
@@ -62,3 +63,22 @@ cut_clear (suc fuel) bs h =
 
 pub divides : (bs : List ℕ) → Divided bs
 divides bs = record { whole = join_whole start bs; clear = cut_clear (suc (length bs)) bs (omega arith) }
+
+module _ (bs part after : List ℕ) (n : ℕ) (at : n ≡ first_comma bs) (front : part ≡ take n bs) (back : after ≡ drop n bs) where
+  -- no comma is left: there is one part
+  pub last_part : length after < 1 → divided bs ≡ part ∷ []
+  last_part h =
+      let l = length-drop n bs in
+      let e : length after ≡ length (drop n bs) = ap length back in
+      let f : ltb (first_comma bs) (length bs) ≡ false = le-ltb (first_comma bs) (length bs) (omega (arith, l, e, at)) in
+      first_part start bs ∙ ap₂ (λ t z. t ∷ parts_after z (first_comma bs) bs) (ap (λ k. take k bs) (sym at) ∙ sym front) f
+
+  -- a comma is left: the other parts follow it
+  pub next_part : 1 ≤ length after → divided bs ≡ part ∷ divided (take (length after - 1) (drop 1 after))
+  next_part h =
+      let l = length-drop n bs in
+      let e : length after ≡ length (drop n bs) = ap length back in
+      let t : ltb (first_comma bs) (length bs) ≡ true = lt-ltb (first_comma bs) (length bs) (omega (arith, l, e, at)) in
+      let rest : drop (first_comma bs + 1) bs ≡ take (length after - 1) (drop 1 after) =
+      ap (λ k. drop (k + 1) bs) (sym at) ∙ sym (drop-drop 1 n bs) ∙ ap (drop 1) (sym back) ∙ sym (take_rest after 1) in
+      first_part start bs ∙ ap₂ (λ u z. u ∷ parts_after z (first_comma bs) bs) (ap (λ k. take k bs) (sym at) ∙ sym front) t ∙ ap (λ r. part ∷ divided r) rest

@@ -3,3 +3,4 @@ pub mod Nests
 pub mod Joins
 pub mod Commas
 pub mod Fills
+pub mod Splitting

@@ -6,3 +6,4 @@ pub mod Laws
 pub mod Division
 pub mod Names
 pub mod Statements
+pub mod Texts

@@ -1,6 +1,6 @@
 // The fields of a line.
-ghost use Rattle.std.specs.Prelude.{◌≡◌, true, false, ◌∷◌, length, MatchOption, nat_lt};
-ghost use Rattle.lines.specs.Division.{Divided, divided, parts_after, rest_of};
+ghost use Rattle.std.specs.Prelude.{◌≡◌, true, false, ◌∷◌, MatchOption};
+ghost use Rattle.lines.specs.Division.{Divided, divided, rest_of};
 ghost use Rattle.lines.specs.Fields.{At, FieldsOf, comment};
 ghost use Rattle.lines.specs.Laws.{Joined};
 
@@ -23,7 +23,7 @@ pub fn fields_of(line: &[u8]) -> Option<Fields<'_>>
     Some(Fields {
         name: part(line, line, first_word(line)),
         operation: part(line, from_operation, first_word(from_operation)),
-        operand: part(line, from_operand, &from_operand[0..end]),
+        operand: part(line, from_operand, &from_operand[..end]),
         remark: part(line, remark, remark),
     })
 }
@@ -50,20 +50,11 @@ pub fn divide(operand: &[u8]) -> Division<'_>
     ensures value { divided operand.now ≡ result.part.now ∷ rest_of result.rest }
     ensures joined { Divided operand.now }
 {
-    let end = outside_end(operand, COMMA);
-    Division {
-        part: &operand[0..end],
-        rest: past_comma(operand, end),
-    }
-}
-
-// What follows the byte at `end`, if there is one.
-fn past_comma(operand: &[u8], end: usize) -> Option<&[u8]>
-    ensures { rest_of result ≡ parts_after (nat_lt end (length operand.now)) end operand.now }
-{
-    if end < operand.len() {
-        Some(&operand[end + 1..])
-    } else {
-        None
+    match operand.split_at(outside_end(operand, COMMA)) {
+        (part, [_comma, rest @ ..]) => Division {
+            part,
+            rest: Some(rest),
+        },
+        (part, _) => Division { part, rest: None },
     }
 }

@@ -1,6 +1,6 @@
 // The kinds of statements, by their operation.
 
-#[derive(Clone, Copy)]
+#[derive(Clone, Copy, Debug, PartialEq, Eq)]
 pub enum Kind {
     // LCLA to GBLC
     Declaration,

@@ -10,9 +10,11 @@ pub mod nesting;
 pub mod operations;
 pub mod statement;
 pub mod statements;
+pub mod texts;
 
 ghost use Rattle.std.specs.Prelude.{◌≡◌, ◌+◌, ◌≤◌, length, take, drop};
 ghost use Rattle.lines.specs.Characters.{character, characters, overwritten};
+ghost use Rattle.lines.specs.Names.{padded_to};
 ghost use Rattle.lines.specs.Fields.{comment, first_at, blanks_length, operation_of, past_blanks, past_word, word};
 
 pub use field::{Fields, Part};
@@ -23,6 +25,7 @@ pub use nesting::{COMMA, is_closed, outside_end};
 pub use operations::kind_of;
 pub use statement::Statement;
 pub use statements::{is_remark, statement_of};
+pub use texts::{Lines, split_line};
 
 pub const BLANK: u8 = 32;
 
@@ -38,87 +41,76 @@ const LAST_CHARACTER: u8 = 126;
 pub fn is_character(byte: u8) -> bool
     ensures { result ≡ character byte }
 {
-    FIRST_CHARACTER <= byte && byte <= LAST_CHARACTER
+    (FIRST_CHARACTER..=LAST_CHARACTER).contains(&byte)
 }
 
 // Are all bytes characters?
 pub fn all_characters(bytes: &[u8]) -> bool
     ensures { result ≡ characters bytes.now }
 {
-    for byte in bytes {
-        if !is_character(*byte) {
-            return false;
-        }
-    }
-    true
+    bytes.iter().all(|byte| is_character(*byte))
 }
 
 // How many bytes stand before the first that is this one.
+#[tactic(auto, using(crate::proofs::Scans::first_found))]
 pub fn first_at(bytes: &[u8], wanted: u8) -> usize
     ensures value { result ≡ first_at wanted bytes.now }
     ensures bound { result ≤ length bytes.now }
 {
-    for (i, byte) in bytes.iter().enumerate() {
-        if *byte == wanted {
-            return i;
-        }
-    }
-    bytes.len()
+    bytes
+        .iter()
+        .position(|byte| *byte == wanted)
+        .unwrap_or(bytes.len())
 }
 
 // What follows the byte at `end`; nothing where there is no such byte.
 pub fn after_byte(bytes: &[u8], end: usize) -> &[u8]
     ensures { result.now ≡ drop (end + 1) bytes.now }
 {
-    let len = bytes.len();
-    if end < len {
-        &bytes[end + 1..]
-    } else {
-        &bytes[len..]
+    match bytes.split_at_checked(end) {
+        Some((_, [_, rest @ ..])) => rest,
+        _ => &[],
     }
 }
 
 // How many blanks stand before the first byte that is none.
+#[tactic(auto, using(crate::proofs::Scans::first_found))]
 fn blanks_length(bytes: &[u8]) -> usize
     ensures value { result ≡ blanks_length bytes.now }
     ensures bound { result ≤ length bytes.now }
 {
-    for (i, byte) in bytes.iter().enumerate() {
-        if *byte != BLANK {
-            return i;
-        }
-    }
-    bytes.len()
+    bytes
+        .iter()
+        .position(|byte| *byte != BLANK)
+        .unwrap_or(bytes.len())
 }
 
 // The bytes before the first blank.
 pub(crate) fn first_word(bytes: &[u8]) -> &[u8]
     ensures { result.now ≡ word bytes.now }
 {
-    front(bytes, first_at(bytes, BLANK))
+    &bytes[..first_at(bytes, BLANK)]
 }
 
 // What follows the first word and the blanks after it.
 pub(crate) fn past_word(bytes: &[u8]) -> &[u8]
     ensures { result.now ≡ past_word bytes.now }
 {
-    let length = first_at(bytes, BLANK);
-    past_blanks(&bytes[length..])
+    past_blanks(&bytes[first_at(bytes, BLANK)..])
 }
 
 // What follows the blanks that stand first.
 pub(crate) fn past_blanks(bytes: &[u8]) -> &[u8]
     ensures { result.now ≡ past_blanks bytes.now }
 {
-    let length = blanks_length(bytes);
-    &bytes[length..]
+    &bytes[blanks_length(bytes)..]
 }
 
 // Is the line a comment, with a star in column 1?
 pub fn is_comment(line: &[u8]) -> bool
     ensures { result ≡ comment line.now }
 {
-    line.len() > 0 && line[0] == STAR
+    line.first() == Some(&STAR)
 }
 
 // The operation field of a line: empty for a comment and for a line that has none.
@@ -126,7 +118,7 @@ pub fn operation(line: &[u8]) -> &[u8]
     ensures { result.now ≡ operation_of line.now }
 {
     if is_comment(line) {
-        return &line[0..0];
+        return &[];
     }
     first_word(past_word(line))
 }
@@ -137,17 +129,21 @@ pub fn overwrite(bytes: &mut [u8], text: &[u8])
 {
     let len = text.len();
     if len <= bytes.len() {
-        bytes[0..len].copy_from_slice(text);
+        bytes[..len].copy_from_slice(text);
     }
+}
+
+// Writes a text over bytes, as far as there is room, and blanks behind it.
+pub fn write_padded(bytes: &mut [u8], text: &[u8])
+    ensures { bytes.new ≡ padded_to (length bytes.old) text.now }
+{
+    bytes.fill(BLANK);
+    overwrite(bytes, front(text, bytes.len()));
 }
 
 // The first bytes, or all where there are fewer.
 pub fn front(bytes: &[u8], length: usize) -> &[u8]
     ensures { result.now ≡ take length bytes.now }
 {
-    if length < bytes.len() {
-        &bytes[0..length]
-    } else {
-        bytes
-    }
+    bytes.get(..length).unwrap_or(bytes)
 }

@@ -2,7 +2,7 @@
 ghost use Rattle.std.specs.Prelude.{◌≡◌};
 ghost use Rattle.lines.specs.Names.{named, padded};
 
-use crate::{BLANK, front, overwrite};
+use crate::{BLANK, write_padded};
 
 // The bytes of a macro name or a symbol name.
 pub const NAME_BYTES: usize = 8;
@@ -12,7 +12,7 @@ pub fn padded_name(bytes: &[u8]) -> [u8; NAME_BYTES]
     ensures { result ≡ padded bytes.now }
 {
     let mut name = [BLANK; NAME_BYTES];
-    overwrite(&mut name, front(bytes, NAME_BYTES));
+    write_padded(&mut name, bytes);
     name
 }
 

@@ -1,6 +1,6 @@
 // How deep a byte stands in apostrophes and parentheses.
 
-#[derive(Clone, Copy)]
+#[derive(Clone, Copy, Default)]
 pub struct Nest {
     pub quoted: bool,
     pub depth: usize,

@@ -13,15 +13,6 @@ const CLOSE: u8 = 41;
 pub const COMMA: u8 = 44;
 
 impl Nest {
-    fn start() -> Nest
-        ensures { result ≡ start }
-    {
-        Nest {
-            quoted: false,
-            depth: 0,
-        }
-    }
-
     fn is_outside(self) -> bool
         ensures { result ≡ outside self }
     {
@@ -34,25 +25,21 @@ impl Nest {
         ensures value { result ≡ past self byte }
         ensures bound { result.depth ≤ self.depth + 1 }
     {
-        if byte == APOSTROPHE {
-            return Nest {
+        match byte {
+            APOSTROPHE => Nest {
                 quoted: !self.quoted,
-                depth: self.depth,
-            };
-        }
-        if self.quoted {
-            return self;
-        }
-        let depth = if byte == OPEN {
-            self.depth + 1
-        } else if byte == CLOSE {
-            self.depth.saturating_sub(1)
-        } else {
-            self.depth
-        };
-        Nest {
-            quoted: self.quoted,
-            depth,
+                ..self
+            },
+            _ if self.quoted => self,
+            OPEN => Nest {
+                depth: self.depth + 1,
+                ..self
+            },
+            CLOSE => Nest {
+                depth: self.depth.saturating_sub(1),
+                ..self
+            },
+            _ => self,
         }
     }
 }
@@ -62,7 +49,7 @@ pub fn outside_end(bytes: &[u8], stop: u8) -> usize
     ensures value { result ≡ end_by stop start bytes.now }
     ensures bound { result ≤ length bytes.now }
 {
-    let mut nest = Nest::start();
+    let mut nest = Nest::default();
     for (i, byte) in bytes.iter().enumerate() {
         let stops = (*byte == stop) & nest.is_outside();
         if stops {
@@ -77,7 +64,7 @@ pub fn outside_end(bytes: &[u8], stop: u8) -> usize
 pub fn is_closed(bytes: &[u8]) -> bool
     ensures { result ≡ closed bytes.now }
 {
-    let mut nest = Nest::start();
+    let mut nest = Nest::default();
     for byte in bytes {
         nest = nest.past(*byte);
     }

@@ -15,10 +15,7 @@ const COLON: u8 = 58;
 pub fn is_remark(line: &[u8]) -> bool
     ensures { result ≡ remark line.now }
 {
-    match line {
-        [first, second, ..] => (*first == COLON) & (*second == STAR),
-        _ => false,
-    }
+    matches!(line, [COLON, STAR, ..])
 }
 
 // The statement that a line of a definition is.

@@ -4,8 +4,9 @@ use Rattle.std.proofs.lemmas.Bool.{leb-true, leb-false, le-leb, lt-leb}
 use Rattle.std.proofs.lemmas.List.{take-append-le}
 use Rattle.sources.specs.declared.answers.Answer.{Answer}
 use Rattle.sources.specs.declared.answers.Refusal.{Refusal}
+use Rattle.sources.specs.declared.answers.Told.{Told}
 use Rattle.sources.specs.declared.answers.Told.TheVariants.{Line, Held, Ended}
-use Rattle.sources.specs.declared.faults.Ending.{Ending}
+use Rattle.sources.specs.Faults.{Ending}
 use Rattle.sources.specs.Lines.{filled, written}
 use Rattle.sources.specs.Meaning.{Priced, Remains, price, first_price, next_price, Untold}
 use Rattle.sources.specs.Replies.{Turn, turning, turn_of, refusal_of, replying, reply_of, StandsIn, Lawful, spent_by}
@@ -61,7 +62,7 @@ turn_facts (p ∷ ps) e d old g = go (leb (price p) g) refl
         }
 
 -- the same of a whole reply
-pub record ReplyFacts (m : Remains) (old : List ℕ) (g : ℕ) (r : Result Answer Refusal) (new : List ℕ) : Type 0 where
+pub record ReplyFacts (m : Remains) (old : List ℕ) (g : ℕ) (r : Result (Answer (Told ℕ)) Refusal) (new : List ℕ) : Type 0 where
   pub within : spent_by r ≤ total m
   pub lines : Lawful r new → lines_in (Some r) new ≡ handed_by m.lines (spent_by r)
   pub ends : EndsIn (Some r) → spent_by r ≡ total m

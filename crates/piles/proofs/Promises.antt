@@ -4,6 +4,7 @@ use Rattle.std.proofs.lemmas.List.{take_more, take_more_set, take_all, drop_more
 use Rattle.std.proofs.lemmas.Bool.{cases_eq}
 use Rattle.sources.specs.declared.answers.Answer.{Answer}
 use Rattle.sources.specs.declared.answers.Refusal.{Refusal}
+use Rattle.sources.specs.declared.answers.Told.{Told}
 use Rattle.sources.specs.Meaning.{Remains, Untold, next_price, pay, spend, iterate, Paced}
 use Rattle.sources.specs.Replies.{refusal_of, reply_of}
 use Rattle.sources.proofs.Paying.{iterate_joins, paced_spend}
@@ -28,11 +29,11 @@ request_facts m before after s =
     let P : List ℕ → Type 0 = λ b. ReplyFacts m (bytes_of before) before.grant r b in
     let g = subst P (sym s.buffer) f in
     let same = sym s.reply in
-    let W : Option (Result Answer Refusal) → Type 0 = λ o. steps_in o ≤ total m in
-    let L : Option (Result Answer Refusal) → Type 0 = λ o. lines_in o (bytes_of after) ≡ handed_by m.lines (steps_in o) in
-    let E : Option (Result Answer Refusal) → Type 0 = λ o. EndsIn o → steps_in o ≡ total m in
-    let D : Option (Result Answer Refusal) → Type 0 = λ o. Untold m → steps_in o ≡ total m → EndsIn o in
-    let H : Option (Result Answer Refusal) → Type 0 = λ o. refusal_of (length (bytes_of before)) before.grant ≡ None → HoldsIn o ↔ (before.grant < next_price m) in
+    let W : Option (Result (Answer (Told ℕ)) Refusal) → Type 0 = λ o. steps_in o ≤ total m in
+    let L : Option (Result (Answer (Told ℕ)) Refusal) → Type 0 = λ o. lines_in o (bytes_of after) ≡ handed_by m.lines (steps_in o) in
+    let E : Option (Result (Answer (Told ℕ)) Refusal) → Type 0 = λ o. EndsIn o → steps_in o ≡ total m in
+    let D : Option (Result (Answer (Told ℕ)) Refusal) → Type 0 = λ o. Untold m → steps_in o ≡ total m → EndsIn o in
+    let H : Option (Result (Answer (Told ℕ)) Refusal) → Type 0 = λ o. refusal_of (length (bytes_of before)) before.grant ≡ None → HoldsIn o ↔ (before.grant < next_price m) in
     record {
       within = subst W same g.within;
       lines = subst L same (g.lines s.lawful);

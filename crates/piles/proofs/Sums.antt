@@ -1,7 +1,7 @@
 -- Steps spent on what remains, by prices.
 use Rattle.std.proofs.Common.{◌≡◌, ℕ, zero, suc, pred, ◌+◌, ◌-◌, ◌<◌, ◌≤◌, Bool, true, false, cond, leb, List, [], ◌∷◌, ◌++◌, map, length, take, sym, refl, ap, ◌∙◌, subst, arith}
 use Rattle.std.proofs.lemmas.Bool.{leb-true, leb-false, le-leb, lt-leb}
-use Rattle.sources.specs.declared.faults.Ending.{Ending}
+use Rattle.sources.specs.Faults.{Ending}
 use Rattle.sources.specs.Meaning.{Priced, Remains, remaining, price, Untold, pay, spend, iterate, next_price}
 use Rattle.sources.proofs.Paying.{iterate_joins}
 use Rattle.piles.specs.Prices.{cost, total, through_of, left, Longest}

@@ -22,7 +22,7 @@ pub record Served (m : Remains) (before after : Request) : Type 0 where
   pub lawful : Lawful (reply_of m (bytes_of before) before.grant).answer (bytes_of after)
 
 -- the steps that a reply tells
-abbrev pub steps_in : Option (Result Answer Refusal) → ℕ
+abbrev pub steps_in : Option (Result (Answer (Told ℕ)) Refusal) → ℕ
 steps_in None = 0
 steps_in (Some r) = spent_by r
 
@@ -35,12 +35,12 @@ steps_by [] = 0
 steps_by (q ∷ qs) = steps_of q + steps_by qs
 
 -- the lines that some replies hand out, in order
-abbrev pub told_lines : Told → List ℕ → List (List ℕ)
+abbrev pub told_lines : Told ℕ → List ℕ → List (List ℕ)
 told_lines (Line n) buffer = take n buffer ∷ []
 told_lines Held buffer = []
 told_lines (Ended e) buffer = []
 
-abbrev pub lines_in : Option (Result Answer Refusal) → List ℕ → List (List ℕ)
+abbrev pub lines_in : Option (Result (Answer (Told ℕ)) Refusal) → List ℕ → List (List ℕ)
 lines_in None buffer = []
 lines_in (Some (Ok a)) buffer = told_lines a.told buffer
 lines_in (Some (Err r)) buffer = []
@@ -50,12 +50,12 @@ lines_by [] = []
 lines_by (q ∷ qs) = lines_in q.reply (bytes_of q) ++ lines_by qs
 
 -- a reply tells the ending
-abbrev pub EndsTold : Told → Type 0
+abbrev pub EndsTold : Told ℕ → Type 0
 EndsTold (Line n) = ⊥
 EndsTold Held = ⊥
 EndsTold (Ended e) = Unit {0}
 
-abbrev pub EndsIn : Option (Result Answer Refusal) → Type 0
+abbrev pub EndsIn : Option (Result (Answer (Told ℕ)) Refusal) → Type 0
 EndsIn None = ⊥
 EndsIn (Some (Ok a)) = EndsTold a.told
 EndsIn (Some (Err r)) = ⊥
@@ -66,12 +66,12 @@ EndsBy [] = ⊥
 EndsBy (q ∷ qs) = EndsIn q.reply ⊎ EndsBy qs
 
 -- a reply holds the request over
-abbrev pub HoldsTold : Told → Type 0
+abbrev pub HoldsTold : Told ℕ → Type 0
 HoldsTold (Line n) = ⊥
 HoldsTold Held = Unit {0}
 HoldsTold (Ended e) = ⊥
 
-abbrev pub HoldsIn : Option (Result Answer Refusal) → Type 0
+abbrev pub HoldsIn : Option (Result (Answer (Told ℕ)) Refusal) → Type 0
 HoldsIn None = ⊥
 HoldsIn (Some (Ok a)) = HoldsTold a.told
 HoldsIn (Some (Err r)) = ⊥

@@ -16,7 +16,7 @@ pub fn ask_both<S: Source + Drop, R: Source + Drop, M: Machine + Drop>(
     requests: &mut [Request],
     others: &mut [Request],
 )
-    ensures { S.Source.meaning (S.Source.kept below) ≡ R.Source.meaning (R.Source.kept other) → M.Machine.state machine ≡ M.Machine.state twin → SameRequests requests.old others.old → SameAnswers requests.new others.new }
+    ensures { S.meaning (S.kept below) ≡ R.meaning (R.kept other) → M.state machine ≡ M.state twin → SameRequests requests.old others.old → SameAnswers requests.new others.new }
 {
     let mut pile = over(below, machine);
     let mut copy = over(other, twin);

@@ -8,7 +8,7 @@ use sources::Source;
 
 // Makes each request in turn and stores its reply.
 pub fn make_requests<S: Source>(pile: &mut S, requests: &mut [Request])
-    ensures { Promise S.Source.meaning S.Source.tick (S.Source.kept pile.old) (S.Source.kept pile.new) requests.old requests.new }
+    ensures { Promise S.meaning S.tick (S.kept pile.old) (S.kept pile.new) requests.old requests.new }
 {
     for request in requests.iter_mut() {
         make(pile, request);
@@ -17,8 +17,8 @@ pub fn make_requests<S: Source>(pile: &mut S, requests: &mut [Request])
 
 // Makes one request and stores its reply.
 fn make<S: Source>(pile: &mut S, request: &mut Request)
-    ensures served { Served (S.Source.meaning (S.Source.kept pile.old)) request.old request.new }
-    ensures reached { S.Source.kept pile.new ≡ iterate S.Source.tick (steps_of request.new) (S.Source.kept pile.old) }
+    ensures served { Served (S.meaning (S.kept pile.old)) request.old request.new }
+    ensures reached { S.kept pile.new ≡ iterate S.tick (steps_of request.new) (S.kept pile.old) }
 {
     let reply = pile.next(request.buffer.as_mut_slice(), request.grant);
     request.reply = Some(reply);

@@ -1,9 +1,9 @@
 // POLL: puts layers over a text from standard input, makes a list of requests, and prints each reply.
 #![tactic(auto)]
 
-use anyhow::anyhow;
+use anyhow::bail;
 use listing::SITE_BYTES;
-use polling::{poll_pile, reply_line, requests_for, shape_named};
+use polling::{Shape, poll_pile, reply_line, requests_for};
 use std::env;
 use std::io::{Read, Write};
 
@@ -19,21 +19,21 @@ fn explain(rt: &HostRuntime) -> anyhow::Result<()> {
     rt.eprintln(USAGE)?;
     rt.eprintln(LAYERS)?;
     rt.eprintln(REQUESTS)?;
-    Err(anyhow!("words not understood"))
+    bail!("words not understood")
 }
 
-fn run(rt: &HostRuntime) -> anyhow::Result<()> {
-    let mut words = env::args(rt)?;
-    let _program = words.next();
+fn main(rt: HostRuntime) -> anyhow::Result<()> {
+    let mut words = env::args(&rt)?.skip(1);
     let (Some(layers), Some(list)) = (words.next(), words.next()) else {
-        return explain(rt);
+        return explain(&rt);
     };
-    let Some(shape) = shape_named(layers.as_str()) else {
-        return explain(rt);
+    let (Ok(shape), Ok(mut requests)) = (
+        layers.as_str().parse::<Shape>(),
+        requests_for(rt.alloc(), list.as_str()),
+    ) else {
+        return explain(&rt);
     };
-    let Ok(mut requests) = requests_for(rt.alloc(), list.as_str()) else {
-        return explain(rt);
-    };
+    // Kept: `as`, since a usize has no `From` to u64.
     let mut site = Vec::new(rt.alloc());
     rt.stdin().take(SITE_BYTES as u64).read_to_end(&mut site)?;
     poll_pile(shape, site.as_slice(), requests.as_mut_slice());
@@ -42,8 +42,4 @@ fn run(rt: &HostRuntime) -> anyhow::Result<()> {
             .write_all(reply_line(rt.alloc(), request)?.as_slice())?;
     }
     Ok(())
-}
-
-fn main(rt: HostRuntime) -> anyhow::Result<()> {
-    run(&rt)
 }

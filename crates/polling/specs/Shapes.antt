@@ -1,5 +1,5 @@
 -- Piles of END layers over a text, and what a list of requests to one is answered.
-use Rattle.std.specs.Prelude.{◌≡◌, ℕ, ◌+◌, List, [], ◌∷◌, None, codes}
+use Rattle.std.specs.Prelude.{◌≡◌, ℕ, ◌+◌, List, [], ◌∷◌, None, codes, All}
 use Rattle.sources.specs.Meaning.{Remains, spend}
 use Rattle.sources.specs.Texts.{text_remains}
 use Rattle.layers.specs.Ends.{end_remains}
@@ -33,5 +33,4 @@ Answered m n (b ∷ bs) (a ∷ cs) = Served (spend m n) b a × Answered m (n + s
 
 -- no request is made yet
 abbrev pub Unmade : List Request → Type 0
-Unmade [] = Unit {0}
-Unmade (q ∷ qs) = (q.reply ≡ None) × Unmade qs
+Unmade qs = All (λ q. q.reply ≡ None) qs

@@ -5,8 +5,8 @@ ghost use Rattle.polling.specs.Shapes.{Unmade};
 use piles::Request;
 use std::alloc::Global;
 
-// The length of a buffer where a request names none.
-const BUFFER_BYTES: usize = 80;
+// The length of a buffer where a request names none, as it would be written.
+const BUFFER_BYTES: &str = "80";
 
 // What a buffer holds before its request.
 const UNUSED: u8 = b'.';
@@ -15,23 +15,18 @@ const UNUSED: u8 = b'.';
 pub fn requests_for(heap: Global, list: &str) -> anyhow::Result<Vec<Request>>
     ensures { IfOk result (λ v. Unmade v.items) }
 {
-    let mut requests = Vec::new(heap);
-    for words in list.split(',') {
-        requests.push(request_for(heap, words)?)?;
-    }
-    Ok(requests)
+    list.split(',')
+        .map(|words| request_for(heap, words))
+        .try_collect(heap)
 }
 
 // A request for `grant` or `grant/bufferlength`.
 fn request_for(heap: Global, words: &str) -> anyhow::Result<Request>
     ensures { IfOk result (λ q. q.reply ≡ None) }
 {
-    let (grant, size) = match words.split_once('/') {
-        Some((grant, size)) => (grant, size.parse::<usize>()?),
-        None => (words, BUFFER_BYTES),
-    };
+    let (grant, size) = words.split_once('/').unwrap_or((words, BUFFER_BYTES));
     Ok(Request {
-        buffer: vec![in heap; UNUSED; size]?,
+        buffer: vec![in heap; UNUSED; size.parse::<usize>()?]?,
         grant: grant.parse::<u32>()?,
         reply: None,
     })

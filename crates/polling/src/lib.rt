@@ -7,6 +7,6 @@ pub mod shapes;
 pub mod show;
 
 pub use asking::requests_for;
-pub use shape::Shape;
-pub use shapes::{poll_pile, shape_named};
+pub use shape::{Shape, UnknownShape};
+pub use shapes::poll_pile;
 pub use show::reply_line;

@@ -1,5 +1,4 @@
 pub mod Filling
 pub mod Hear
 pub mod Paying
-pub mod Splitting
 pub mod Reading

@@ -1,10 +1,8 @@
 -- Faults and refusals: their numbers, the count of lines, and a fault passed up.
-use Rattle.std.specs.Prelude.{ℕ, ◌+◌, min}
+use Rattle.std.specs.Prelude.{ℕ, ◌+◌, min, Ok, Err, Result}
 use Rattle.sources.specs.declared.faults.Cause.{Cause}
 use Rattle.sources.specs.declared.faults.Cause.TheVariants.{LineTooLong, BadCharacter}
 use Rattle.sources.specs.declared.faults.Fault.{Fault}
-use Rattle.sources.specs.declared.faults.Ending.{Ending}
-use Rattle.sources.specs.declared.faults.Ending.TheVariants.{End, Failed}
 use Rattle.sources.specs.declared.answers.Refusal.{Refusal}
 use Rattle.sources.specs.declared.answers.Refusal.TheVariants.{ShortBuffer, LargeGrant}
 
@@ -26,11 +24,19 @@ counted n = min (n + 1) 999999999
 abbrev pub deeper : Fault → Fault
 deeper f = record { cause = f.cause; depth = min (f.depth + 1) 255; line = f.line; definition = f.definition; statement = f.statement }
 
+-- why a source ends: End, or a fault
+abbrev pub Ending : Type 0
+Ending = Result (Unit {0}) Fault
+
+-- End
+abbrev pub the_end : Ending
+the_end = Ok tt
+
 -- the ending as the layer above tells it
 abbrev pub raised : Ending → Ending
-raised End = End
-raised (Failed f) = Failed (deeper f)
+raised (Ok u) = Ok u
+raised (Err f) = Err (deeper f)
 
 -- a fault that a source finds in its own line, when so many lines are taken with it
 abbrev pub found : Cause → ℕ → Ending
-found c n = Failed (record { cause = c; depth = 0; line = n; definition = record { 0 = 0 }; statement = record { 0 = 0 } })
+found c n = Err (record { cause = c; depth = 0; line = n; definition = record { 0 = 0 }; statement = record { 0 = 0 } })

@@ -1,6 +1,6 @@
 -- What remains in a source: priced lines and one priced ending; and what steps do to it.
 use Rattle.std.specs.Prelude.{◌≡◌, ℕ, zero, suc, pred, ◌<◌, List, [], ◌∷◌}
-use Rattle.sources.specs.declared.faults.Ending.{Ending}
+use Rattle.sources.specs.Faults.{Ending}
 
 -- a line and its price, which is one more than `beyond`: a price is at least one step
 pub record Priced : Type 0 where

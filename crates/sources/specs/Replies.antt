@@ -5,18 +5,18 @@ use Rattle.sources.specs.declared.answers.Refusal.{Refusal}
 use Rattle.sources.specs.declared.answers.Refusal.TheVariants.{ShortBuffer, LargeGrant}
 use Rattle.sources.specs.declared.answers.Told.{Told}
 use Rattle.sources.specs.declared.answers.Told.TheVariants.{Line, Held, Ended}
-use Rattle.sources.specs.declared.faults.Ending.{Ending}
 use Rattle.lines.specs.Characters.{characters}
+use Rattle.sources.specs.Faults.{Ending}
 use Rattle.sources.specs.Lines.{written}
 use Rattle.sources.specs.Meaning.{Priced, Remains, price, spend}
 
 -- what a request that is not refused tells, and the steps it spends
 pub record Turn : Type 0 where
-  pub told : Told
+  pub told : Told ℕ
   pub spent : ℕ
   pub buffer : List ℕ
 
-abbrev pub turning : Told → ℕ → List ℕ → Turn
+abbrev pub turning : Told ℕ → ℕ → List ℕ → Turn
 turning t n b = record { told = t; spent = n; buffer = b }
 
 -- the first line or the ending where its price is at most the grant; else held over, and the whole grant is spent
@@ -27,7 +27,7 @@ turn_of (p ∷ ps) e d buffer grant =
 
 -- the whole reply: the answer, the buffer, and what remains
 pub record Reply : Type 0 where
-  pub answer : Result Answer Refusal
+  pub answer : Result (Answer (Told ℕ)) Refusal
   pub buffer : List ℕ
   pub left : Remains
 
@@ -47,13 +47,13 @@ unfoldable pub reply_of : Remains → List ℕ → ℕ → Reply
 reply_of m buffer grant = replying (refusal_of (length buffer) grant) m buffer grant
 
 -- the contract of NEXT: what was answered, what stands in the buffer and what remains are the reply
-pub record Replies (before after : Remains) (old new : List ℕ) (grant : ℕ) (r : Result Answer Refusal) : Type 0 where
+pub record Replies (before after : Remains) (old new : List ℕ) (grant : ℕ) (r : Result (Answer (Told ℕ)) Refusal) : Type 0 where
   pub answer : r ≡ (reply_of before old grant).answer
   pub buffer : new ≡ (reply_of before old grant).buffer
   pub left : after ≡ (reply_of before old grant).left
 
 -- the steps that an answer tells; a refusal spends none
-abbrev pub spent_by : Result Answer Refusal → ℕ
+abbrev pub spent_by : {T : Type 0} → Result (Answer T) Refusal → ℕ
 spent_by (Ok a) = a.spent
 spent_by (Err r) = 0
 
@@ -63,11 +63,11 @@ pub record LineIn (n : ℕ) (buffer : List ℕ) : Type 0 where
   pub clean : characters (take n buffer) ≡ true
 
 -- what an answer tells as a line stands in the buffer
-abbrev pub StandsIn : Told → List ℕ → Type 0
+abbrev pub StandsIn : Told ℕ → List ℕ → Type 0
 StandsIn (Line n) buffer = LineIn n buffer
 StandsIn Held buffer = Unit {0}
 StandsIn (Ended e) buffer = Unit {0}
 
-abbrev pub Lawful : Result Answer Refusal → List ℕ → Type 0
+abbrev pub Lawful : Result (Answer (Told ℕ)) Refusal → List ℕ → Type 0
 Lawful (Ok a) buffer = StandsIn a.told buffer
 Lawful (Err r) buffer = Unit {0}

@@ -3,7 +3,6 @@
 
 pub mod answers;
 pub mod faults;
-pub mod hearing;
 pub mod line;
 pub mod requests;
 pub mod source;
@@ -11,10 +10,9 @@ pub mod text;
 pub mod texts;
 pub mod writing;
 
-pub use answers::{Answer, Refusal, Told};
-pub use faults::{Cause, DefinitionNumber, Ending, Fault, StatementNumber};
-pub use hearing::{Heard, Hearing};
+pub use answers::{Answer, Refusal, Reply, Told};
+pub use faults::{Cause, DefinitionNumber, Ending, Fault, StatementNumber, passed_up};
 pub use line::Line;
-pub use requests::{ask, deliver, refusal};
+pub use requests::{admit, ask, deliver};
 pub use source::Source;
 pub use text::TextSource;

@@ -1,16 +1,15 @@
-// A line by value: 0 to 80 characters, filled with blanks to its full width.
-ghost use Rattle.std.specs.Prelude.{◌≡◌, ◌≤◌, true, take};
+// A line by value: 0 to 80 characters.
+ghost use Rattle.std.specs.Prelude.{◌≡◌, ◌≤◌, true, length};
 ghost use Rattle.lines.specs.Characters.{characters};
-ghost use Rattle.sources.specs.Lines.{filled};
+
+use arrayvec::ArrayVec;
 
 // The longest line, and the bytes of a buffer that a line takes.
 pub const WIDTH: usize = 80;
 
-#[derive(Clone, Copy)]
+#[derive(Drop)]
 pub struct Line {
-    pub(crate) bytes: [u8; WIDTH],
-    pub(crate) len: usize,
-    ghost fits: { len ≤ 80 },
-    ghost clean: { characters (take len bytes) ≡ true },
-    ghost whole: { bytes ≡ filled (take len bytes) },
+    pub(crate) bytes: ArrayVec<u8, WIDTH>,
+    ghost fits: { length bytes.items ≤ 80 },
+    ghost clean: { characters bytes.items ≡ true },
 }

@@ -1,80 +1,72 @@
 // A request as a layer makes it, and an answer as a caller gets it.
-ghost use Rattle.std.specs.Prelude.{◌≡◌, ◌≤◌, true, length, take, if◌then◌else◌, Ok, Err, nat_lt};
-ghost use Rattle.lines.specs.Characters.{characters};
-ghost use Rattle.sources.specs.Hearings.{Asked, delivers, heard_spent, tells};
-ghost use Rattle.sources.specs.Lines.{filled};
+ghost use Rattle.std.specs.Prelude.{◌≡◌, length, take, if◌then◌else◌, Some, None, Ok, Err, MatchResult, nat_lt};
+ghost use Rattle.sources.specs.Hearings.{Asked, delivers, tells, text_of};
 ghost use Rattle.sources.specs.Meaning.{iterate};
-ghost use Rattle.sources.specs.Replies.{refusal_of};
+ghost use Rattle.sources.specs.Replies.{LineIn, refusal_of, spent_by};
 
-use crate::answers::{Answer, Refusal, Told};
-use crate::hearing::{Heard, Hearing};
+use crate::answers::{Answer, Refusal, Reply, Told};
 use crate::line::{Line, WIDTH};
 use crate::source::{MOST_STEPS, Source};
+use arrayvec::ArrayVec;
 use lines::BLANK;
 
-// The refusal of a call with this buffer and this grant, if it is a bad one.
-pub fn refusal(buffer: &[u8], grant: u32) -> Option<Refusal>
-    ensures { result ≡ refusal_of (length buffer.now) grant }
-{
-    if buffer.len() < WIDTH {
-        return Some(Refusal::ShortBuffer);
-    }
-    if grant > MOST_STEPS {
-        return Some(Refusal::LargeGrant);
-    }
-    None
-}
-
-// Tells a caller what was heard: a line goes into the buffer. A buffer under 80 bytes is refused.
-pub fn deliver(hearing: &Hearing, buffer: &mut [u8]) -> Result<Answer, Refusal>
-    ensures answer { result ≡ (if nat_lt (length buffer.old) 80 then Err Refusal.ShortBuffer else Ok (tells hearing.now)) }
-    ensures buffer { buffer.new ≡ (if nat_lt (length buffer.old) 80 then buffer.old else delivers hearing.now buffer.old) }
+// Ok where a call with this buffer and this grant is a good one, and else its refusal.
+pub fn admit(buffer: &[u8], grant: u32) -> Result<(), Refusal>
+    ensures { MatchResult result (λ _. refusal_of (length buffer.now) grant ≡ None) (λ e. refusal_of (length buffer.now) grant ≡ Some e) }
 {
     if buffer.len() < WIDTH {
         return Err(Refusal::ShortBuffer);
     }
-    let spent = hearing.spent;
-    match hearing.heard {
-        Heard::Got(line) => {
-            let length = line.put(buffer)?;
-            Ok(Answer {
-                spent,
-                told: Told::Line(length),
-            })
-        }
-        Heard::Waits => Ok(Answer {
-            spent,
-            told: Told::Held,
-        }),
-        Heard::Over(ending) => Ok(Answer {
-            spent,
-            told: Told::Ended(ending),
-        }),
+    if grant > MOST_STEPS {
+        return Err(Refusal::LargeGrant);
     }
+    Ok(())
+}
+
+// Tells a caller what was heard: a line goes into the buffer. A buffer under 80 bytes is refused.
+pub fn deliver(heard: &Answer<Told<Line>>, buffer: &mut [u8]) -> Reply
+    ensures answer { result ≡ (if nat_lt (length buffer.old) 80 then Err Refusal.ShortBuffer else Ok (tells heard.now)) }
+    ensures buffer { buffer.new ≡ (if nat_lt (length buffer.old) 80 then buffer.old else delivers heard.now buffer.old) }
+{
+    if buffer.len() < WIDTH {
+        return Err(Refusal::ShortBuffer);
+    }
+    let told = match &heard.told {
+        Told::Line(line) => Told::Line(line.put(buffer)?),
+        Told::Held => Told::Held,
+        Told::Ended(ending) => Told::Ended(*ending),
+    };
+    Ok(Answer {
+        spent: heard.spent,
+        told,
+    })
 }
 
 // One request to the source below, with a buffer of the layer's own.
-pub fn ask<S: Source>(source: &mut S, grant: u32) -> Result<Hearing, Refusal>
+pub fn ask<S: Source>(source: &mut S, grant: u32) -> Result<Answer<Told<Line>>, Refusal>
     ensures heard { Asked (S.Source.meaning (S.Source.kept source.old)) grant result }
-    ensures reached { S.Source.kept source.new ≡ iterate S.Source.tick (heard_spent result) (S.Source.kept source.old) }
+    ensures reached { S.Source.kept source.new ≡ iterate S.Source.tick (spent_by result) (S.Source.kept source.old) }
 {
-    let mut bytes = [BLANK; WIDTH];
-    let answer = source.next(&mut bytes, grant)?;
-    let heard = match answer.told {
-        Told::Line(len) => Heard::Got(received(bytes, len)),
-        Told::Held => Heard::Waits,
-        Told::Ended(ending) => Heard::Over(ending),
+    let mut buffer = [BLANK; WIDTH];
+    let answer = source.next(&mut buffer, grant)?;
+    let told = match answer.told {
+        Told::Line(len) => Told::Line(received(&buffer, len)),
+        Told::Held => Told::Held,
+        Told::Ended(ending) => Told::Ended(ending),
     };
-    Ok(Hearing {
+    Ok(Answer {
         spent: answer.spent,
-        heard,
+        told,
     })
 }
 
 // The line that a source has put into a buffer.
-fn received(bytes: [u8; WIDTH], len: usize) -> Line
-    requires { (len ≤ 80) × ((characters (take len bytes) ≡ true) × (bytes ≡ filled (take len bytes))) }
-    ensures { (result.bytes ≡ bytes) × (result.len ≡ len) }
+fn received(buffer: &[u8; WIDTH], len: usize) -> Line
+    requires { LineIn len buffer.now }
+    ensures { text_of result ≡ take len buffer.now }
 {
-    Line { bytes, len }
+    let Ok(bytes) = ArrayVec::try_from(&buffer[..len]) else {
+        return unreachable();
+    };
+    Line { bytes }
 }

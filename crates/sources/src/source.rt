@@ -3,7 +3,7 @@ ghost use Rattle.std.specs.Prelude.{◌≡◌, ℕ};
 ghost use Rattle.sources.specs.Meaning.{Paced, Remains, iterate};
 ghost use Rattle.sources.specs.Replies.{Lawful, Replies, spent_by};
 
-use crate::answers::{Answer, Refusal};
+use crate::answers::Reply;
 
 // The most steps that one request may grant.
 pub const MOST_STEPS: u32 = 1_000_000;
@@ -23,7 +23,7 @@ pub trait Source {
     // a step of what is kept is a step of what remains
     ghost paced: { Paced meaning tick };
 
-    fn next(&mut self, buffer: &mut [u8], grant: u32) -> Result<Answer, Refusal>
+    fn next(&mut self, buffer: &mut [u8], grant: u32) -> Reply
         ensures replies { Replies (meaning (kept self.old)) (meaning (kept self.new)) buffer.old buffer.new grant result }
         ensures lawful { Lawful result buffer.new }
         ensures reached { kept self.new ≡ iterate tick (spent_by result) (kept self.old) };

@@ -1,9 +1,11 @@
 // The text source: the lines of a byte slice, each at one step, and its ending at one step.
 use crate::faults::Ending;
+use lines::Lines;
 
 #[derive(Drop)]
 pub struct TextSource<'a> {
-    pub(crate) rest: &'a [u8],
+    // the lines that are left
+    pub(crate) lines: Lines<'a>,
     // the lines taken so far
     pub(crate) taken: u32,
     // the ending, once it is told

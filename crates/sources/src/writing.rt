@@ -7,32 +7,26 @@ ghost use Rattle.sources.specs.Texts.{flaw};
 use crate::answers::Refusal;
 use crate::faults::Cause;
 use crate::line::{Line, WIDTH};
-use lines::{BLANK, all_characters, overwrite};
+use arrayvec::ArrayVec;
+use lines::{all_characters, write_padded};
 
 impl Line {
     // A line of these bytes, or what is wrong with them.
     pub fn read(text: &[u8]) -> Result<Line, Cause>
         ensures { MatchResult result (λ l. (flaw text.now ≡ None) × (text_of l ≡ text.now)) (λ e. flaw text.now ≡ Some e) }
     {
-        if text.len() > WIDTH {
-            return Err(Cause::LineTooLong);
-        }
+        let bytes = ArrayVec::try_from(text).map_err(|_| Cause::LineTooLong)?;
         if !all_characters(text) {
             return Err(Cause::BadCharacter);
         }
-        let mut bytes = [BLANK; WIDTH];
-        overwrite(&mut bytes, text);
-        Ok(Line {
-            bytes,
-            len: text.len(),
-        })
+        Ok(Line { bytes })
     }
 
     // The characters of the line.
     pub fn text(&self) -> &[u8]
         ensures { result.now ≡ text_of self.now }
     {
-        &self.bytes[0..self.len]
+        self.bytes.as_slice()
     }
 
     // Fills the first 80 bytes of a buffer with the line; a shorter buffer is refused and stays as it is.
@@ -43,7 +37,8 @@ impl Line {
         if buffer.len() < WIDTH {
             return Err(Refusal::ShortBuffer);
         }
-        buffer[0..WIDTH].copy_from_slice(&self.bytes);
-        Ok(self.len)
+        let text = self.text();
+        write_padded(&mut buffer[..WIDTH], text);
+        Ok(text.len())
     }
 }

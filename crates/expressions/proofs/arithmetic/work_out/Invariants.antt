@@ -1,9 +1,9 @@
-use Rattle.std.proofs.Common.{◌-◌, length}
+use Rattle.std.proofs.Common.{length}
 use Rattle.expressions.proofs.Working.{Gone}
 use Rattle.expressions.proofs.arithmetic.work_out.Given as goal
 
-abbrev pub invariant-loop-at : goal.invariant-loop-at
-invariant-loop-at g l = Gone g.V.Number.operations (g.S.Symbols.meaning l.symbols) (length l.initial.levels) l.text l.at l.place l.levels l.known
+abbrev pub invariant-loop-rest : goal.invariant-loop-rest
+invariant-loop-rest g l = Gone g.V.Number.operations (g.S.Symbols.meaning l.symbols) (length l.fn.levels) l.text l.rest l.walk l.known
 
-abbrev pub decreases-loop-at : goal.decreases-loop-at
-decreases-loop-at g l = length l.text - l.at
+abbrev pub decreases-loop-rest : goal.decreases-loop-rest
+decreases-loop-rest g l = length l.rest

@@ -1,21 +1,11 @@
-use Rattle.std.proofs.Common.{ℕ, Bool, not, sym, ap, arith, rules}
-use Rattle.lines.proofs.Scans.{first_found, first_more, first_all}
+use Rattle.std.proofs.Common.{◌≡◌, ℕ, true, false, not, ◌∙◌, rules, tests}
+use Rattle.std.proofs.lemmas.Iterator.{YieldsList-from_slice, IsFirst-from_position}
+use Rattle.lines.proofs.Scans.{first_found}
 use Rattle.expressions.specs.Classes.{letter_or_digit}
 use Rattle.expressions.proofs.pieces.name_length.Goals as goal
 
-pub returns-then-not-is_letter_or_digit : goal.returns-then-not-is_letter_or_digit
-returns-then-not-is_letter_or_digit c =
-    let p : ℕ → Bool = (λ b. not (letter_or_digit b)) in
-    let found = ap not (sym c.if-not-is_letter_or_digit.ensures) in
-    record { value = first_found p _ _ (search rules) found c.loop-i.invariant; bound = search rules }
-
-pub loop-i-preserved : goal.loop-i-preserved
-loop-i-preserved c =
-    let p : ℕ → Bool = (λ b. not (letter_or_digit b)) in
-    let goes_on = ap not (sym c.if-not-is_letter_or_digit.ensures) in
-    first_more p _ _ (search rules) goes_on c.loop-i.invariant
-
-pub returns : goal.returns
-returns c =
-    let e = first_all (λ b. not (letter_or_digit b)) _ _ c.loop-i-test.false c.loop-i.invariant in
-    record { value = omega (arith, e); bound = omega arith }
+pub returns-clause-value : goal.returns-clause-value
+returns-clause-value c =
+    let bs = c.args.bytes.now in
+    c.unwrap_or.ensures ∙ first_found (λ (b : ℕ). not (letter_or_digit b)) bs c.position.result
+    (IsFirst-from_position _ _ _ (λ b. not (letter_or_digit b) ≡ true) (λ b. not (letter_or_digit b) ≡ false) c.position.ensures.ran (YieldsList-from_slice bs cc) (λ x q k. search (rules, tests)) (λ x q k. search (rules, tests)))

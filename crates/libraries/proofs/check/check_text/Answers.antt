@@ -1,13 +1,17 @@
-use Rattle.std.proofs.Common.{sym, ◌∙◌}
+use Rattle.std.proofs.Common.{◌≡◌, None, Some, MatchResult, rules}
+use Rattle.std.proofs.lemmas.Result.{MatchResult-weaker}
+use Rattle.libraries.specs.Checks.{check_of}
 use Rattle.libraries.specs.Reads.{passed_is, refused_not}
 use Rattle.libraries.proofs.check.check_text.Goals as goal
 
-pub returns-in-Some : goal.returns-in-Some
-returns-in-Some c =
-    let e = sym c.first_fault.ensures ∙ c.in-Some.is in
-    record { first = e; lawful = refused_not c.args.text.now c.in-Some.found e }
+pub returns-in_err-check_lines-clause-lawful : goal.returns-in_err-check_lines-clause-lawful
+returns-in_err-check_lines-clause-lawful c =
+    let text = c.args.text.now in
+    let first : MatchResult c.from_residual.result (λ _. check_of text ≡ None) (λ f. check_of text ≡ Some f) = search rules in
+    MatchResult-weaker _ first (λ _. passed_is text) (refused_not text)
 
-pub returns-in-None : goal.returns-in-None
-returns-in-None c =
-    let e = sym c.first_fault.ensures ∙ c.in-None.is in
-    record { first = e; lawful = passed_is c.args.text.now e }
+pub returns-clause-lawful : goal.returns-clause-lawful
+returns-clause-lawful c =
+    let text = c.args.text.now in
+    let first : MatchResult c.check_definitions.result (λ _. check_of text ≡ None) (λ f. check_of text ≡ Some f) = search rules in
+    MatchResult-weaker _ first (λ _. passed_is text) (refused_not text)

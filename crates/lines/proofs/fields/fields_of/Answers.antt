@@ -1,5 +1,4 @@
 use Rattle.std.proofs.Common.{◌≡◌, ℕ, ◌-◌, List, length, take, drop, sym, refl, ap, ◌∙◌, subst, ap₂}
-use native.Mathlib.Nat.{sub-zero}
 use Rattle.std.proofs.lemmas.List.{take_rest}
 use Rattle.lines.specs.declared.field.Part.{Part}
 use Rattle.lines.specs.Fields.{At, word, past_word, past_blanks, from_operand, operand_of, remark_of}
@@ -25,7 +24,7 @@ returns c =
     let ea : a ≡ past_word line = c.past_word-from_operation.ensures in
     let eb : b ≡ from_operand line = c.past_word-from_operand.ensures ∙ ap past_word ea in
     let en : n ≡ operand_end (from_operand line) = c.outside_end-end.ensures.value ∙ ap operand_end eb in
-    let operand : take (n - 0) b ≡ operand_of line = ap (λ k. take k b) (sub-zero n) ∙ ap₂ take en eb in
+    let operand : take n b ≡ operand_of line = ap₂ take en eb in
     let after : take (length b - n) (drop n b) ≡ drop (operand_end (from_operand line)) (from_operand line) = take_rest b n ∙ ap₂ drop en eb in
     let er : c.past_blanks-remark.result.now ≡ remark_of line = c.past_blanks-remark.ensures ∙ ap past_blanks after in
     record {
@@ -35,7 +34,7 @@ returns c =
         record {
           name = at_same line line line c.first_word.result.now (word line) c.part.result refl c.first_word.ensures c.part.ensures;
           operation = at_same line a (past_word line) c.first_word-2.result.now (word (past_word line)) c.part-2.result ea (c.first_word-2.ensures ∙ ap word ea) c.part-2.ensures;
-          operand = at_same line b (from_operand line) (take (n - 0) b) (operand_of line) c.part-3.result eb operand c.part-3.ensures;
+          operand = at_same line b (from_operand line) (take n b) (operand_of line) c.part-3.result eb operand c.part-3.ensures;
           remark = at_same line c.past_blanks-remark.result.now (remark_of line) c.past_blanks-remark.result.now (remark_of line) c.part-4.result er er c.part-4.ensures;
         },
       );

@@ -2,6 +2,7 @@ use Rattle.std.proofs.Common.{◌≡◌, ℕ, List, length, Some, vec_items, vec
 use Rattle.std.proofs.lemmas.List.{with_items_is}
 use Rattle.sources.specs.declared.answers.Answer.{Answer}
 use Rattle.sources.specs.declared.answers.Refusal.{Refusal}
+use Rattle.sources.specs.declared.answers.Told.{Told}
 use Rattle.sources.specs.Replies.{reply_of, Lawful}
 use Rattle.piles.proofs.requests.make.Goals as goal
 
@@ -16,7 +17,7 @@ returns g c =
     let new = with_items_is v c.next-reply.new.buffer size in
     let answer : c.next-reply.result ≡ (reply_of m (vec_items v) grant).answer = e.replies.answer ∙ ap (λ b. (reply_of m b grant).answer) old in
     let P : List ℕ → Type 0 = λ b. Lawful (reply_of m (vec_items v) grant).answer b in
-    let Q : Result Answer Refusal → Type 0 = λ r. Lawful r c.next-reply.new.buffer in
+    let Q : Result (Answer (Told ℕ)) Refusal → Type 0 = λ r. Lawful r c.next-reply.new.buffer in
     record {
       served = record {
         grant = refl;

@@ -1,11 +1,9 @@
 use Rattle.std.proofs.Common.{◌∙◌}
-use Rattle.catalog.proofs.Behind.{chained_before, chained_behind, same_length}
+use Rattle.catalog.proofs.Behind.{same_length}
 use Rattle.catalog.proofs.chains.ChainLibrary.length.Goals as goal
 
-pub returns-then-definition-before : goal.returns-then-definition-before
-returns-then-definition-before g c =
-    c.length.ensures ∙ same_length _ _ _ _ (chained_behind _ _ c.args.definition.0 c.count-before.result c.fits.result c.count-before.ensures c.fits.ensures c.if-definition-before.true)
+pub returns-in-Some : goal.returns-in-Some
+returns-in-Some g c = c.length.ensures ∙ same_length _ _ _ _ c.in-Some.ensures
 
-pub returns-else-definition-before : goal.returns-else-definition-before
-returns-else-definition-before g c =
-    c.length-else-definition-before.ensures ∙ same_length _ _ _ _ (chained_before _ _ c.args.definition.0 c.count-before.result c.fits.result c.count-before.ensures c.fits.ensures c.if-definition-before.false)
+pub returns-in-None : goal.returns-in-None
+returns-in-None g c = c.length-in-None.ensures ∙ same_length _ _ _ _ c.in-None.ensures

@@ -1,20 +1,13 @@
-use Rattle.std.proofs.Common.{ap, ◌∙◌}
-use Rattle.libraries.specs.Lookups.{hands, tells}
-use Rattle.catalog.proofs.Behind.{chained_before, chained_behind, same_statement}
+use Rattle.std.proofs.Common.{◌∙◌}
+use Rattle.catalog.proofs.Behind.{same_statement}
 use Rattle.catalog.proofs.chains.ChainLibrary.statement.Goals as goal
 
-pub returns-then-definition-before : goal.returns-then-definition-before
-returns-then-definition-before g c =
-    let same = same_statement _ _ _ _ c.args.statement.0 (chained_behind _ _ c.args.definition.0 c.count-before.result c.fits.result c.count-before.ensures c.fits.ensures c.if-definition-before.true) in
-    record {
-      answer = c.statement.ensures.answer ∙ ap (λ t. tells t c.args.buffer.now) same;
-      buffer = c.statement.ensures.buffer ∙ ap (λ t. hands t c.args.buffer.now) same;
-    }
+pub returns-in-Some : goal.returns-in-Some
+returns-in-Some g c =
+    let same = same_statement _ _ _ _ c.args.statement.0 c.args.buffer.now c.in-Some.ensures in
+    record { answer = c.statement.ensures.answer ∙ same.0; buffer = c.statement.ensures.buffer ∙ same.1 }
 
-pub returns-else-definition-before : goal.returns-else-definition-before
-returns-else-definition-before g c =
-    let same = same_statement _ _ _ _ c.args.statement.0 (chained_before _ _ c.args.definition.0 c.count-before.result c.fits.result c.count-before.ensures c.fits.ensures c.if-definition-before.false) in
-    record {
-      answer = c.statement-else-definition-before.ensures.answer ∙ ap (λ t. tells t c.args.buffer.now) same;
-      buffer = c.statement-else-definition-before.ensures.buffer ∙ ap (λ t. hands t c.args.buffer.now) same;
-    }
+pub returns-in-None : goal.returns-in-None
+returns-in-None g c =
+    let same = same_statement _ _ _ _ c.args.statement.0 c.args.buffer.now c.in-None.ensures in
+    record { answer = c.statement-in-None.ensures.answer ∙ same.0; buffer = c.statement-in-None.ensures.buffer ∙ same.1 }

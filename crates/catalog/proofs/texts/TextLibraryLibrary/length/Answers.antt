@@ -1,25 +1,21 @@
-use Rattle.std.proofs.Common.{◌≤◌, Ok, sym, ap, ◌∙◌, arith}
-use Rattle.libraries.specs.Reads.{text_lawful}
-use Rattle.libraries.specs.Definitions.{text_definitions}
-use Rattle.libraries.proofs.Lawfully.{definition_lawful, definition_short}
-use Rattle.catalog.proofs.Numbering.{length_missing, length_of, standing}
+use Rattle.std.proofs.Common.{◌≡◌, sym, ap, arith}
+use Rattle.std.specs.Option.{ok_or}
+use Rattle.std.proofs.lemmas.Result.{err_from_is_err_and}
+use Rattle.libraries.specs.declared.refusals.LibraryRefusal.TheVariants.{Missing}
+use Rattle.catalog.proofs.Numbering.{length_missing, length_short, length_there}
 use Rattle.catalog.proofs.texts.TextLibraryLibrary.length.Goals as goal
 
 pub overflow_cast-result : goal.overflow_cast-result
 overflow_cast-result c =
-    let text = c.args.self.now.text.now in
-    let found = c.in-Some.ensures in
-    let long = (standing text found.0 c.in-Some.entry found.2).long in
-    let short = definition_short found.0 (definition_lawful (text_definitions text) c.args.definition.0 found.0 (text_lawful text) found.1) in
-    let m : c.in-Some.entry.statements ≤ 255 = omega (arith, long, short) in
-    omega (arith, m)
+    let short = length_short c.args.self.now.text.now c.args.definition.0 c.in_ok-entry.entry (rw c.in_ok-entry.ensures.ok_part at c.entry.ensures) in
+    omega (arith, short)
 
-pub returns-in-Some : goal.returns-in-Some
-returns-in-Some c =
-    let text = c.args.self.now.text.now in
-    let found = c.in-Some.ensures in
-    let long = (standing text found.0 c.in-Some.entry found.2).long in
-    ap Ok (sym long) ∙ sym (length_of text c.args.definition.0 found.0 found.1)
+pub returns : goal.returns
+returns c = sym (length_there c.args.self.now.text.now c.args.definition.0 c.in_ok-entry.entry (rw c.in_ok-entry.ensures.ok_part at c.entry.ensures))
 
-pub returns-in-None : goal.returns-in-None
-returns-in-None c = sym (length_missing c.args.self.now.text.now c.args.definition.0 c.in-None.ensures)
+pub returns-in_err-entry : goal.returns-in_err-entry
+returns-in_err-entry c =
+    let none = length_missing c.args.self.now.text.now c.args.definition.0 (rw c.in_err-entry.ensures.ok_part at c.entry.ensures) in
+    let p = err_from_is_err_and c.from_residual.result c.from_residual.ensures.1 in
+    let why : c.in_err-entry.field-0.0 ≡ Missing = cc (c.in_err-entry.ensures.value, ap (λ o. ok_or o Missing) c.in_err-entry.ensures.ok_part) in
+    rw (p.1, p.2, why) (sym none)

@@ -12,4 +12,4 @@ pub returns : goal.returns
 returns g c =
     let m = g.M.Machine in
     let s = g.S.Source in
-    code_worked m.rule m.falls s.meaning s.tick s.paced _ _ _ _ _ _ c.work-deed.result _ c.requires.goes c.requires.busy (omega arith) c.work-deed.ensures c.stopping-self.ensures c.telling.ensures
+    code_worked m.rule m.falls s.meaning s.tick s.paced _ _ _ _ _ _ c.work-deed.result _ c.requires.goes c.requires.busy (omega arith) c.work-deed.ensures c.ending-self.ensures c.told.ensures

@@ -1,7 +1,0 @@
-// How one text stands to another.
-#[derive(Clone, Copy)]
-pub enum Order {
-    Lower,
-    Same,
-    Higher,
-}
