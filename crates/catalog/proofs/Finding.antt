@@ -41,8 +41,8 @@ module _ (ds : List Definition) (name : List ℕ) where
       ∙ sym (next at h ∙ ap (λ z. cond z (Some (record { 0 = suc at })) (found_from (suc at) (drop (at + 1) ds) name)) same) ∙ holds
 
 -- a name with another first byte is another name
-pub other_initial : (text : List ℕ) (d : Definition) (e : Entry) (name : List ℕ) → Standing text d e → (e.initial ≡ get_or name 0 0 → ⊥) → bytes_eq (name_of d) name ≡ false
-other_initial text d e name st differs = go (bytes_eq (name_of d) name) refl
+pub other_initial : (d : Definition) (e : Entry) (name : List ℕ) → Standing d e → (e.initial ≡ get_or name 0 0 → ⊥) → bytes_eq (name_of d) name ≡ false
+other_initial d e name st differs = go (bytes_eq (name_of d) name) refl
   where
     go : (z : Bool) → bytes_eq (name_of d) name ≡ z → bytes_eq (name_of d) name ≡ false
     go false h = h
@@ -57,12 +57,12 @@ lawful_some : (d : Definition) → lawful_definition d ≡ true → 0 < length d
 lawful_some [] l = cc
 lawful_some (p ∷ body) l = omega arith
 
-named_in : (text : List ℕ) (at : ℕ) (e : Entry) → at < length (text_definitions text) → Standing text (get_or (text_definitions text) at []) e
-    → NamedIn (lines_of (drop e.start text)) (get_or (text_definitions text) at [])
+named_in : (text : List ℕ) (at : ℕ) (e : Entry) → at < length (text_definitions text) → Standing (get_or (text_definitions text) at []) e
+    → NamedIn (lines_of e.lines.now) (get_or (text_definitions text) at [])
 named_in text at e h st =
     let D = text_definitions text in
     let d = get_or D at [] in
-    let L = lines_of (drop e.start text) in
+    let L = lines_of e.lines.now in
     let is = numbered_at D (at + 1) at refl ∙ slice_get-get_or D at [] h in
     let some = lawful_some d (definition_lawful D (at + 1) d (text_lawful text) is) in
     let long = st.long in
@@ -76,8 +76,8 @@ named_in text at e h st =
 -- a row of the table is of the definition of its place, which has its name in the line after its MACRO line
 pub record RowOf (text : List ℕ) (at : ℕ) (e : Entry) : Type 0 where
   pub within : at < length (text_definitions text)
-  pub stands : Standing text (get_or (text_definitions text) at []) e
-  pub named : NamedIn (lines_of (drop e.start text)) (get_or (text_definitions text) at [])
+  pub stands : Standing (get_or (text_definitions text) at []) e
+  pub named : NamedIn (lines_of e.lines.now) (get_or (text_definitions text) at [])
 
 pub row_of : (s : TextLibrary) (rows : List Entry) → rows ≡ s.entries.items → (at : ℕ) → at < length rows → RowOf s.text.now at (get_or rows at nowhere)
 row_of s rows same at h =
@@ -85,7 +85,7 @@ row_of s rows same at h =
     let many = ap length same in
     let below : at < length s.entries.items = omega (arith, h, many) in
     let within : at < length (text_definitions text) = omega (arith, below, s.counted) in
-    let st = standing text (get_or (text_definitions text) at []) (get_or rows at nowhere) (ap (λ es. stands text (get_or (text_definitions text) at []) (get_or es at nowhere)) same ∙ s.placed at below) in
+    let st = standing (get_or (text_definitions text) at []) (get_or rows at nowhere) (ap (λ es. stands (get_or (text_definitions text) at []) (get_or es at nowhere)) same ∙ s.placed at below) in
     record { within = within; stands = st; named = named_in text at (get_or rows at nowhere) within st }
 
 -- so many of the first two lines are read, so many are not, and the name was not in them

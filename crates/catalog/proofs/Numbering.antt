@@ -1,11 +1,11 @@
 -- Definitions and statements by their numbers.
-use Rattle.std.proofs.Common.{◌≡◌, ℕ, zero, suc, ◌+◌, ◌-◌, ◌<◌, ◌≤◌, true, ◌&&◌, eqb, leb, ◌⊎◌, List, [], ◌∷◌, length, get_or, drop, Some, None, Option, Ok, Err, MatchOption, sym, refl, ap, ◌∙◌, inl, inr, arith, get_or-drop, get_or-take, length-drop, length-take}
+use Rattle.std.proofs.Common.{◌≡◌, ℕ, zero, suc, ◌+◌, ◌-◌, ◌<◌, ◌≤◌, true, ◌&&◌, eqb, ◌⊎◌, List, [], ◌∷◌, length, get_or, drop, Some, None, Option, Ok, Err, MatchOption, sym, refl, ap, ◌∙◌, inl, inr, arith, get_or-drop, get_or-take, length-drop, length-take}
 use Rattle.std.specs.Borrow.{Bor}
 use Rattle.std.specs.List.{HoldsAt, slice_get}
 use Rattle.std.specs.Option.{option_map}
 use Rattle.std.proofs.lemmas.Option.{slice_get_past, slice_get-get_or}
 use Rattle.libraries.specs.declared.refusals.LibraryRefusal.TheVariants.{Missing}
-use Rattle.std.proofs.lemmas.Bool.{and_parts, eqb-true, leb-true}
+use Rattle.std.proofs.lemmas.Bool.{and_parts, eqb-true}
 use Rattle.lines.specs.Texts.{lines_of}
 use Rattle.libraries.specs.Definitions.{Definition, text_definitions}
 use Rattle.libraries.specs.Lookups.{length_in, length_or, numbered, statement_in, statement_or}
@@ -33,20 +33,17 @@ module _ {A : Type 0} where
   numbered_past xs n h = numbered_at xs n (n - 1) (omega (arith, h)) ∙ slice_get_past xs (n - 1) (omega (arith, h))
 
 -- what the test tells: where the definition stands
-pub record Standing (text : List ℕ) (d : Definition) (e : Entry) : Type 0 where
-  pub inside : e.start ≤ length text
-  pub is : d ≡ definition_at text e
+pub record Standing (d : Definition) (e : Entry) : Type 0 where
+  pub is : d ≡ definition_at e
   pub long : length d ≡ e.statements
   pub initial : initial_of d ≡ e.initial
 
-pub standing : (text : List ℕ) (d : Definition) (e : Entry) → stands text d e ≡ true → Standing text d e
-standing text d e h =
-    let halves = and_parts (leb e.start (length text) && same d (definition_at text e)) (eqb (length d) e.statements && eqb (initial_of d) e.initial) h in
-    let left = and_parts (leb e.start (length text)) (same d (definition_at text e)) halves.0 in
+pub standing : (d : Definition) (e : Entry) → stands d e ≡ true → Standing d e
+standing d e h =
+    let halves = and_parts (same d (definition_at e)) (eqb (length d) e.statements && eqb (initial_of d) e.initial) h in
     let right = and_parts (eqb (length d) e.statements) (eqb (initial_of d) e.initial) halves.1 in
     record {
-      inside = leb-true e.start (length text) left.0;
-      is = (same_decides d (definition_at text e)).0 left.1;
+      is = (same_decides d (definition_at e)).0 halves.0;
       long = eqb-true (length d) e.statements right.0;
       initial = eqb-true (initial_of d) e.initial right.1;
     }
@@ -58,7 +55,7 @@ located s n at None one past = numbered_past (text_definitions s.text.now) n (om
 located s n at (Some e) one row =
     let D = text_definitions s.text.now in
     let within = row.0 in
-    (get_or D at [], numbered_at D n at one ∙ slice_get-get_or D at [] (omega (arith, within, s.counted)), ap (stands s.text.now (get_or D at [])) (row.1 nowhere) ∙ s.placed at within)
+    (get_or D at [], numbered_at D n at one ∙ slice_get-get_or D at [] (omega (arith, within, s.counted)), ap (stands (get_or D at [])) (row.1 nowhere) ∙ s.placed at within)
 
 -- what a borrowed line shows
 pub shown : (r : Option (Bor (List ℕ))) (o : Option (List ℕ)) → o ≡ option_map (λ t. t.now) r → MatchOption r (o ≡ None) (λ t. o ≡ Some t.now)
@@ -82,15 +79,15 @@ module _ (text : List ℕ) (n s : ℕ) where
         go zero q h = refl
         go (suc k) q (inl l) = absurd (omega (arith, q, l))
         go (suc k) q (inr l) =
-            let long = (standing text found.0 e found.2).long in
+            let long = (standing found.0 e found.2).long in
             numbered_past found.0 (suc k) (omega (arith, q, l, long))
 
     -- it stands so many lines after the MACRO line
-    pub statement_there : 1 ≤ at → at ≤ e.statements → statement_in (text_definitions text) n s ≡ slice_get (lines_of (drop e.start text)) at
+    pub statement_there : 1 ≤ at → at ≤ e.statements → statement_in (text_definitions text) n s ≡ slice_get (lines_of e.lines.now) at
     statement_there some h =
         let d = found.0 in
-        let L = lines_of (drop e.start text) in
-        let st = standing text d e found.2 in
+        let L = lines_of e.lines.now in
+        let st = standing d e found.2 in
         let one : 1 + (at - 1) ≡ at = omega (arith, some) in
         let long = st.long in
         let cut = ap length st.is ∙ length-take e.statements (drop 1 L) in
@@ -110,10 +107,10 @@ module _ (text : List ℕ) (n : ℕ) where
 
   module _ (e : Entry) (found : Located text n (Some e)) where
     pub length_there : length_in (text_definitions text) n ≡ Ok e.statements
-    length_there = length_of (Some found.0) found.1 ∙ ap Ok (standing text found.0 e found.2).long
+    length_there = length_of (Some found.0) found.1 ∙ ap Ok (standing found.0 e found.2).long
 
     pub length_short : e.statements ≤ 255
     length_short =
-        let long = (standing text found.0 e found.2).long in
+        let long = (standing found.0 e found.2).long in
         let short = definition_short found.0 (definition_lawful (text_definitions text) n found.0 (text_lawful text) found.1) in
         omega (arith, long, short)

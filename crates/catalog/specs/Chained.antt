@@ -1,9 +1,10 @@
 -- One library behind another.
-use Rattle.std.specs.Prelude.{◌≡◌, ℕ, ◌+◌, Bool, true, false, cond, ◌&&◌, List, [], ◌∷◌, ◌++◌, length, Some, None, Option, nat_le, refl}
+use Rattle.std.specs.Prelude.{◌≡◌, ℕ, ◌+◌, Bool, true, false, cond, List, ◌++◌, length, Some, None, Option, nat_le, refl}
 use Rattle.std.proofs.Common.{arith, leb-true, length-append}
 use Rattle.sources.specs.declared.faults.DefinitionNumber.{DefinitionNumber}
 use Rattle.libraries.specs.Lookups.{numbered}
-use Rattle.libraries.specs.Definitions.{Definition, every, Lawful, lawful_definition}
+use Rattle.libraries.specs.Reads.{all_append}
+use Rattle.libraries.specs.Definitions.{Definition, Lawful, lawful_definition}
 
 -- the first list and then the second, where both make at most 255; else the first alone
 abbrev pub chained : List Definition → List Definition → List Definition
@@ -14,14 +15,6 @@ abbrev pub Behind : List Definition → List Definition → ℕ → Option Defin
 Behind xs ys n None = numbered (chained xs ys) n ≡ numbered xs n
 Behind xs ys n (Some own) = numbered (chained xs ys) n ≡ numbered ys own.0
 
-every_append : {A : Type 0} (p : A → Bool) (xs ys : List A) → every p xs ≡ true → every p ys ≡ true → every p (xs ++ ys) ≡ true
-every_append p [] ys f g = g
-every_append p (x ∷ xs) ys f g = go (p x) f (λ h. every_append p xs ys h g)
-  where
-    go : (z : Bool) → (z && every p xs) ≡ true → (every p xs ≡ true → every p (xs ++ ys) ≡ true) → (z && every p (xs ++ ys)) ≡ true
-    go true h ih = ih h
-    go false h ih = h
-
 -- its definitions are at most 255 and lawful too
 pub chained_lawful : (xs ys : List Definition) → Lawful xs → Lawful ys → Lawful (chained xs ys)
 chained_lawful xs ys l m = go (nat_le (length xs + length ys) 255) refl
@@ -31,4 +24,4 @@ chained_lawful xs ys l m = go (nat_le (length xs + length ys) 255) refl
     go true e =
         let few = leb-true (length xs + length ys) 255 e in
         let n = length-append xs ys in
-        record { few = omega (arith, few, n); each = every_append lawful_definition xs ys l.each m.each }
+        record { few = omega (arith, few, n); each = all_append lawful_definition xs ys l.each m.each }

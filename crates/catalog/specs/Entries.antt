@@ -1,5 +1,5 @@
 -- Where the definitions of a text stand.
-use Rattle.std.specs.Prelude.{◌≡◌, ℕ, zero, suc, Bool, true, cond, ◌&&◌, List, [], ◌∷◌, length, take, drop, Some, None, Option, ◌==◌, nat_le, slice_index}
+use Rattle.std.specs.Prelude.{◌≡◌, ℕ, zero, suc, Bool, true, cond, ◌&&◌, List, [], ◌∷◌, length, take, drop, Some, None, Option, ◌==◌, slice_index}
 use lib.Pointwise.{pointwise}
 use Rattle.std.specs.Str.{bytes_eq}
 use Rattle.lines.specs.Texts.{lines_of, past_line}
@@ -19,8 +19,8 @@ runs [] = 0
 runs (t ∷ ts) = cond (ends (body_kind t)) 1 (suc (runs ts))
 
 -- the definition of an entry: so many lines after its MACRO line
-abbrev pub definition_at : List ℕ → Entry → Definition
-definition_at text e = take e.statements (drop 1 (lines_of (drop e.start text)))
+abbrev pub definition_at : Entry → Definition
+definition_at e = take e.statements (drop 1 (lines_of e.lines.now))
 
 -- the two definitions are the same, as a test
 abbrev pub same : Definition → Definition → Bool
@@ -31,14 +31,14 @@ abbrev pub initial_of : Definition → ℕ
 initial_of d = slice_index (name_of d) 0
 
 -- the definition stands where the entry says, as a test
-abbrev pub stands : List ℕ → Definition → Entry → Bool
-stands text d e = (nat_le e.start (length text) && same d (definition_at text e)) && (length d == e.statements && initial_of d == e.initial)
+abbrev pub stands : Definition → Entry → Bool
+stands d e = same d (definition_at e) && (length d == e.statements && initial_of d == e.initial)
 
 -- the row that is read where the table has none
 abbrev pub nowhere : Entry
-nowhere = record { start = 0; statements = 0; initial = 0 }
+nowhere = record { lines = record { ref_ptr = (0, 0); now = [] }; statements = 0; initial = 0 }
 
 -- what is found of the definition of this number: where it stands, or that there is none
 abbrev pub Located : List ℕ → ℕ → Option Entry → Type 0
 Located text n None = numbered (text_definitions text) n ≡ None
-Located text n (Some e) = (d : Definition) × (numbered (text_definitions text) n ≡ Some d) × (stands text d e ≡ true)
+Located text n (Some e) = (d : Definition) × (numbered (text_definitions text) n ≡ Some d) × (stands d e ≡ true)

@@ -8,7 +8,7 @@ use libraries::{DEFINITIONS, Library, LibraryRefusal};
 use lines::NAME_BYTES;
 use sources::{DefinitionNumber, StatementNumber};
 
-// The first library, and then the second.
+// The first library, and then the second. The clauses name both lists: a word for them would take both libraries and their members.
 pub fn chain<A: Library, B: Library>(first: A, second: B) -> Chain<A, B>
     ensures first { A.Library.definitions result.first ≡ A.Library.definitions first }
     ensures second { B.Library.definitions result.second ≡ B.Library.definitions second }

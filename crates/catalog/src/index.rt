@@ -27,7 +27,7 @@ pub(crate) fn indexed(text: &[u8]) -> TextLibrary<'_>
     while let Some((_, body)) = split_line(rest) {
         let (statements, behind) = statements_in(body);
         entries.push(Entry {
-            start: text.len() - rest.len(),
+            lines: rest,
             statements,
             initial: initial_of(first_line(body)),
         });

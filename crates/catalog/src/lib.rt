@@ -26,9 +26,9 @@ mod tests {
 
     const BUILDING: &[u8] = b" MACRO\n HEAT %ZONE\n DC %ZONE\n MEND\n MACRO\n BELL\n MEND\n";
 
-    // The number that is found.
-    fn found<L: Library>(library: &L, name: &[u8]) -> Option<u16> {
-        library.find(padded_name(name)).map(|number| number.0)
+    // The number that is found, or 0.
+    fn found<L: Library>(library: &L, name: &[u8]) -> u16 {
+        library.find(padded_name(name)).map_or(0, |number| number.0)
     }
 
     // The panel's library finds its own, then the building's; of two of one name the first.
@@ -36,8 +36,8 @@ mod tests {
     fn one_behind_another(rt: HostRuntime) -> Result<(), Fail> {
         let both = chain(TextLibrary::new(PANEL), TextLibrary::new(BUILDING));
         assert!(rt; both.fits() && both.count() == 4);
-        assert!(rt; found(&both, b"SMOKE") == Some(1) && found(&both, b"HEAT") == Some(2));
-        assert!(rt; found(&both, b"BELL") == Some(4) && found(&both, b"SMOK") == None);
+        assert!(rt; found(&both, b"SMOKE") == 1 && found(&both, b"HEAT") == 2);
+        assert!(rt; found(&both, b"BELL") == 4 && found(&both, b"SMOK") == 0);
         let mut buffer = [b'.'; 81];
         let put = both.statement(DefinitionNumber(3), StatementNumber(2), &mut buffer);
         assert!(rt; matches!(put, Ok(9)) && &buffer[0..10] == b" DC %ZONE ".as_slice());

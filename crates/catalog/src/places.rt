@@ -10,10 +10,7 @@ use lines::split_line;
 pub(crate) fn first_line(text: &[u8]) -> &[u8]
     ensures { result.now ≡ first_line text.now }
 {
-    match split_line(text) {
-        Some((line, _)) => line,
-        None => &[],
-    }
+    split_line(text).map_or(&[], |(line, _)| line)
 }
 
 // How many lines there are up to and with the first MEND, and what follows them.
@@ -22,6 +19,7 @@ pub(crate) fn statements_in(text: &[u8]) -> (usize, &[u8])
     ensures bound { result.0 ≤ length text.now }
     ensures rest { result.1.now ≡ after result.0 text.now }
 {
+    // Cut by hand and counted, because what is left of the text is asked for too.
     let mut rest = text;
     let mut count = 0;
     while let Some((line, behind)) = split_line(rest) {

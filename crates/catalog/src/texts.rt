@@ -39,7 +39,7 @@ impl<'a> TextLibrary<'a> {
     }
 
     // Where the definition of this number stands, if there is one.
-    fn entry(&self, number: u16) -> Option<Entry>
+    fn entry(&self, number: u16) -> Option<Entry<'a>>
         ensures { Located self.now.text.now number result }
     {
         let at = usize::from(number).checked_sub(1)?;
@@ -55,7 +55,7 @@ impl<'a> TextLibrary<'a> {
         if !(1..=entry.statements).contains(&at) {
             return None;
         }
-        Lines::of(&self.text[entry.start..]).nth(at)
+        Lines::of(entry.lines).nth(at)
     }
 }
 
@@ -67,6 +67,7 @@ impl Library for TextLibrary<'_> {
 
     ghost lawful = { λ library. text_lawful library.text.now };
 
+    // Loops over the definitions and their first lines, left by a label with the number.
     // The name is in a definition's prototype, which is read only where the first byte fits.
     fn find(&self, name: [u8; NAME_BYTES]) -> Option<DefinitionNumber> {
         'definitions: {
@@ -74,9 +75,10 @@ impl Library for TextLibrary<'_> {
                 if entry.initial != name[0] {
                     continue;
                 }
-                let lines = Lines::of(&self.text[entry.start..]);
+                let lines = Lines::of(entry.lines);
                 for (number, line) in lines.take(PROTOTYPE + 1).enumerate() {
                     if number == PROTOTYPE && padded_name(operation(line)) == name {
+                        // Narrowed by `as`, which is proved: try_from would add a case that cannot happen. So below.
                         break 'definitions Some(DefinitionNumber(at as u16 + 1));
                     }
                 }

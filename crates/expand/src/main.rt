@@ -7,7 +7,7 @@ use std::io::{Read, Write};
 
 fn main(rt: HostRuntime) -> io::Result<()> {
     // One byte past the limit shows that a file is too large.
-    // Kept: `as`, since a usize has no `From` to u64.
+    // `as`, since a usize has no `From` to u64.
     let mut site = Vec::new(rt.alloc());
     rt.stdin()
         .take(SITE_BYTES as u64 + 1)

@@ -5,7 +5,7 @@ use Rattle.expressions.specs.declared.level.Op.TheVariants.{Plus, Minus, Times, 
 use Rattle.expressions.specs.Joins.{join_of, lawful_of, PartsOf}
 use Rattle.expressions.specs.Pieces.{goes_on}
 use Rattle.expressions.specs.Trees.{Tree, number, name, signed, applied, group, Word, operator, close, words_of, word_written, word_fits, op_byte, digit_first, additive, Shape, as_sum, as_product, as_factor, takes_sign, takes_sum, takes_product, left_place, stands, Writes}
-use Rattle.expressions.proofs.Naming.{both, and_true}
+use Rattle.expressions.proofs.Starts.{both, and_true}
 
 -- bytes that go on with no digits and no name
 abbrev Stops : List ℕ → Type 0

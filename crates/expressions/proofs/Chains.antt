@@ -1,12 +1,14 @@
 -- Pieces one after the other: what is there is read, and only so.
 use Rattle.std.proofs.Common.{◌≡◌, ℕ, ◌<◌, Bool, true, false, cond, not, ◌&&◌, eqb, leb, List, [], ◌∷◌, ◌++◌, length, take, drop, Some, None, sym, refl, ap, ◌∙◌, subst, ap₂, append_assoc, arith}
+use Rattle.std.specs.List.{list_all}
 use Rattle.std.proofs.lemmas.List.{take_at, drop_at}
 use Rattle.std.proofs.lemmas.Bool.Decides.{nat_tests}
-use Rattle.expressions.specs.Classes.{letter_or_digit, every}
+use Rattle.expressions.specs.Classes.{letter_or_digit}
 use Rattle.expressions.specs.Pieces.{Piece, plain, percent, colons, symbol, joined, piece_written, begins, single, letter_first, goes_on, named, fits, Reads, OneReading}
 use Rattle.expressions.specs.Firsts.{name_length, symbol_of, after_percent, first}
-use Rattle.expressions.proofs.Naming.{both, and_true, not_true, name_is, first_sound}
-use Rattle.expressions.proofs.Joining.{FoundPart, Reader, Come, come_next, one_join}
+use Rattle.expressions.proofs.Starts.{both, and_true, not_true, run_is}
+use Rattle.expressions.proofs.Naming.{first_sound}
+use Rattle.expressions.proofs.Joining.{Reader, Come, come_next, one_join}
 
 letter_is_no_percent : (cs rest : List ℕ) → letter_first cs ≡ true → (begins 37 (cs ++ rest) ≡ false) × (letter_first (cs ++ rest) ≡ true)
 letter_is_no_percent [] rest e = absurd (cc)
@@ -17,10 +19,10 @@ letter_is_no_percent (c ∷ cs) rest e =
 -- a name and what does not go on with it make a symbol
 after_is : (cs rest : List ℕ) → named cs ≡ true → goes_on rest ≡ false → after_percent (cs ++ rest) ≡ Some (cond (single rest) (joined cs) (symbol cs))
 after_is cs rest e f =
-    let a = both (letter_first cs) (every letter_or_digit cs && leb (length cs) 7) e in
-    let b = both (every letter_or_digit cs) (leb (length cs) 7) a.1 in
+    let a = both (letter_first cs) (list_all letter_or_digit cs && leb (length cs) 7) e in
+    let b = both (list_all letter_or_digit cs) (leb (length cs) 7) a.1 in
     let l = letter_is_no_percent cs rest a.0 in
-    let n : name_length (cs ++ rest) ≡ length cs = name_is cs rest b.0 f in
+    let n : name_length (cs ++ rest) ≡ length cs = run_is letter_or_digit cs rest b.0 f in
     let few : leb (name_length (cs ++ rest)) 7 ≡ true = ap (λ k. leb k 7) n ∙ b.1 in
     let t : take (name_length (cs ++ rest)) (cs ++ rest) ≡ cs = ap (λ k. take k (cs ++ rest)) n ∙ take_at cs rest _ refl in
     let d : drop (name_length (cs ++ rest)) (cs ++ rest) ≡ rest = ap (λ k. drop k (cs ++ rest)) n ∙ drop_at cs rest _ refl in
@@ -49,13 +51,9 @@ first_complete (joined cs) rest e =
     let a = both (named cs) (not (begins 58 rest)) e in
     ap after_percent (append_assoc cs (58 ∷ []) rest) ∙ (after_is cs (58 ∷ rest) a.0 refl ∙ ap (λ z. Some (cond z (joined cs) (symbol cs))) a.1)
 
--- the first piece that is read is there
-pub first_there : (bs : List ℕ) (p : Piece) → first bs ≡ Some p → FoundPart piece_written fits bs p
-first_there bs p e = let f = first_sound bs p e in record { here = f.here; fits = f.may }
-
 -- pieces are read from the left
 abbrev pub piece_reader : Reader Piece
-piece_reader = record { write = piece_written; may = fits; front = first; empty = refl; sound = first_there; complete = first_complete }
+piece_reader = record { write = piece_written; may = fits; front = first; empty = refl; sound = first_sound; complete = first_complete }
 
 -- a field has at most one list of pieces
 pub one_reading : OneReading

@@ -13,7 +13,7 @@ use Rattle.expressions.specs.Numbers.{number_of, ranged, value_of}
 use Rattle.expressions.specs.Pieces.{Table, is_known, name_of}
 use Rattle.expressions.specs.Texts.{text_of}
 use Rattle.expressions.specs.Trees.{Tree, number, name, signed, applied, group, Word, operator, close, words_of, word_known, words_known, value_in, Writes, Worked}
-use Rattle.expressions.proofs.Naming.{both}
+use Rattle.expressions.proofs.Starts.{both}
 
 -- met by evaluation
 abbrev Met : Flaw → Type 0

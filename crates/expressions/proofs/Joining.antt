@@ -1,13 +1,12 @@
 -- Parts one after the other: what is there is read, and only so.
-use Rattle.std.proofs.Common.{◌≡◌, ℕ, ◌+◌, ◌<◌, ◌≤◌, Bool, true, List, [], ◌∷◌, ◌++◌, length, drop, Some, None, Option, sym, refl, ap, ◌∙◌, ap₂, append_assoc, arith, length-drop}
+use Rattle.std.proofs.Common.{◌≡◌, ℕ, ◌+◌, ◌<◌, ◌≤◌, Bool, true, false, ◌&&◌, List, [], ◌∷◌, ◌++◌, length, drop, Some, None, Ok, Err, Option, Result, sym, refl, ap, ◌∙◌, ap₂, append_assoc, arith, length-drop}
 use Rattle.std.proofs.lemmas.List.{append-nil, append_cancel_left, drop-drop, drop_all}
+use Rattle.std.proofs.lemmas.List.Folds.{list_all-append}
+use Rattle.std.specs.List.{list_all}
+use Rattle.expressions.specs.declared.flaws.Flaw.{Flaw}
+use Rattle.expressions.specs.declared.flaws.Flaw.TheVariants.{NoForm}
 use Rattle.expressions.specs.Joins.{join_of, lawful_of, PartsOf}
-use Rattle.expressions.proofs.Naming.{both, and_true}
-
--- what is said of a first part: it is written first, and may stand before what follows
-pub record FoundPart {P : Type 0} (write : P → List ℕ) (may : P → List ℕ → Bool) (bs : List ℕ) (p : P) : Type 0 where
-  pub here : write p ++ drop (length (write p)) bs ≡ bs
-  pub fits : may p (drop (length (write p)) bs) ≡ true
+use Rattle.expressions.proofs.Starts.{both, and_true, FoundPart}
 
 -- a way to read the first part of bytes: what is read is there, and what is there is read
 pub record Reader (P : Type 0) : Type 0 where
@@ -66,6 +65,19 @@ lawful_push x [] p end l f = and_true _ _ f refl
 lawful_push x (q ∷ ps) p end l f =
     let a = both (x.may q (join_of x.write ps ++ (x.write p ++ end))) (lawful_of x.write x.may ps (x.write p ++ end)) l in
     and_true _ _ (ap (x.may q) (join_push x ps p end) ∙ a.0) (lawful_push x ps p end a.1 f)
+
+-- one part more: all of them pass where those before it do, and it does
+pub all_push : {P : Type 0} (test : P → Bool) (ps : List P) (p : P) → list_all test (ps ++ (p ∷ [])) ≡ list_all test ps && test p
+all_push test ps p = list_all-append test ps (p ∷ []) ∙ ap (λ z. list_all test ps && z) (go (test p))
+  where
+    go : (z : Bool) → z && true ≡ z
+    go true = refl
+    go false = refl
+
+-- a flaw is read only where no part stands, and it is of form
+pub none_read : {P R : Type 0} (read : Option P → Result R Flaw) → read None ≡ Err NoForm → ((p : P) → (r : R) × (read (Some p) ≡ Ok r)) → (o : Option P) (f : Flaw) → Err f ≡ read o → (o ≡ None) × (f ≡ NoForm)
+none_read read none some None f e = let g : Err f ≡ Err NoForm = e ∙ none in (refl, cc)
+none_read read none some (Some p) f e = let g : Err f ≡ Ok (some p).0 = e ∙ (some p).1 in absurd (cc)
 
 -- parts that are read up to a place
 pub record Come {P : Type 0} (x : Reader P) (bytes : List ℕ) (here : ℕ) (ps : List P) : Type 0 where

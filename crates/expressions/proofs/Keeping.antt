@@ -10,7 +10,7 @@ use Rattle.expressions.specs.Classes.{digits}
 use Rattle.expressions.specs.Pieces.{named}
 use Rattle.expressions.specs.Trees.{Tree, number, name, signed, applied, group, Word, numeral, variable, operator, open', close, words_of, additive, Shape, as_sum, as_lead, as_product, as_factor, stands, digit_first}
 use Rattle.expressions.specs.Walks.{join_with, sign_with, left_of, level_of, fresh_level, is_fresh, Stage, stage_of, factored, closing, operated_level, step_at, step_of}
-use Rattle.expressions.proofs.Naming.{both, and_true}
+use Rattle.expressions.proofs.Starts.{both, and_true}
 use Rattle.expressions.proofs.Parsing.{no, tree_walker, tree_token, start}
 
 pub none_is : {S X : Type 0} (s : S) → None ≡ Some s → X

@@ -1,5 +1,6 @@
 pub mod Bytewise
 pub mod Figures
+pub mod Starts
 pub mod Naming
 pub mod Chains
 pub mod Substituting

@@ -1,23 +1,12 @@
 -- The first piece of a field: what is read is there, and what is there is read.
 use Rattle.std.proofs.Common.{◌≡◌, ℕ, suc, ◌≤◌, Bool, true, false, cond, not, ◌&&◌, ◌||◌, eqb, leb, List, [], ◌∷◌, ◌++◌, length, take, drop, Some, None, sym, refl, ap, ◌∙◌, subst, append_assoc, arith}
-use Rattle.std.proofs.lemmas.List.{length-take-le, take-append-drop, drop_at}
+use Rattle.std.proofs.lemmas.List.{length-take-le, take-append-drop}
 use Rattle.std.proofs.lemmas.Bool.Decides.{nat_tests}
 use Rattle.lines.proofs.Scans.{first_within}
-use Rattle.expressions.specs.Classes.{letter, digit, letter_or_digit, every}
-use Rattle.expressions.specs.Pieces.{Piece, plain, percent, colons, symbol, joined, piece_written, begins, single, letter_first, goes_on, named, fits}
+use Rattle.expressions.specs.Classes.{letter, digit, letter_or_digit}
+use Rattle.expressions.specs.Pieces.{Piece, plain, percent, colons, symbol, joined, piece_written, begins, single, letter_first, named, fits}
+use Rattle.expressions.proofs.Starts.{both, and_true, not_true, every_before, stops_after, FoundPart, there, some_is}
 use Rattle.expressions.specs.Firsts.{name_length, symbol_of, after_percent, first}
-
--- both tests of an `and` passed
-pub both : (a b : Bool) → a && b ≡ true → (a ≡ true) × (b ≡ true)
-both true b e = (refl, e)
-both false b e = absurd (cc)
-
-pub and_true : (a b : Bool) → a ≡ true → b ≡ true → a && b ≡ true
-and_true a b e f = rw (e, f) refl
-
-pub not_true : (a : Bool) → not a ≡ true → a ≡ false
-not_true true e = absurd (cc)
-not_true false e = refl
 
 -- a letter begins a name of at least one
 pub named_some : (bs : List ℕ) → letter_first bs ≡ true → letter_first (take (name_length bs) bs) ≡ true
@@ -28,55 +17,16 @@ named_some (b ∷ bs) e = go (letter b) (digit b) e
     go true d f = e
     go false d f = absurd (cc)
 
--- the name has only letters and digits
-pub named_every : (bs : List ℕ) → every letter_or_digit (take (name_length bs) bs) ≡ true
-named_every [] = refl
-named_every (b ∷ bs) = go (letter_or_digit b) refl (named_every bs)
-  where
-    go : (z : Bool) → letter_or_digit b ≡ z → every letter_or_digit (take (name_length bs) bs) ≡ true
-        → every letter_or_digit (take (cond (not z) 0 (suc (name_length bs))) (b ∷ bs)) ≡ true
-    go true e ih = and_true _ _ e ih
-    go false e ih = refl
-
--- what follows the name does not go on with it
-pub named_stops : (bs : List ℕ) → goes_on (drop (name_length bs) bs) ≡ false
-named_stops [] = refl
-named_stops (b ∷ bs) = go (letter_or_digit b) refl (named_stops bs)
-  where
-    go : (z : Bool) → letter_or_digit b ≡ z → goes_on (drop (name_length bs) bs) ≡ false
-        → goes_on (drop (cond (not z) 0 (suc (name_length bs))) (b ∷ bs)) ≡ false
-    go true e ih = ih
-    go false e ih = e
-
--- a name is as long as it is written where what follows does not go on with it
-pub name_is : (cs rest : List ℕ) → every letter_or_digit cs ≡ true → goes_on rest ≡ false → name_length (cs ++ rest) ≡ length cs
-name_is [] [] e f = refl
-name_is [] (b ∷ bs) e f = rw f refl
-name_is (d ∷ cs) rest e f =
-    let p = both (letter_or_digit d) (every letter_or_digit cs) e in
-    go (letter_or_digit d) p.0 (name_is cs rest p.1 f)
-  where
-    go : (z : Bool) → z ≡ true → name_length (cs ++ rest) ≡ length cs → cond (not z) 0 (suc (name_length (cs ++ rest))) ≡ suc (length cs)
-    go true e ih = ap suc ih
-    go false e ih = absurd (cc)
-
--- what is said of a first piece: it is written first, and may stand before what follows
-pub record Found (bs : List ℕ) (p : Piece) : Type 0 where
-  pub here : piece_written p ++ drop (length (piece_written p)) bs ≡ bs
-  pub may : fits p (drop (length (piece_written p)) bs) ≡ true
-
--- a piece is found where it is written, if it may stand there
-pub there : (p : Piece) (rest bs : List ℕ) → bs ≡ piece_written p ++ rest → fits p rest ≡ true → Found bs p
-there p rest bs e f =
-    let d : drop (length (piece_written p)) bs ≡ rest = ap (drop (length (piece_written p))) e ∙ drop_at (piece_written p) rest _ refl in
-    record { here = ap (λ x. piece_written p ++ x) d ∙ sym e; may = ap (fits p) d ∙ f }
+-- what is said of a first piece
+abbrev pub Found : List ℕ → Piece → Type 0
+Found bs p = FoundPart piece_written fits bs p
 
 -- the length of a symbol's name, and the name, are those of its first piece
 pub named_is : (bs : List ℕ) → letter_first bs ≡ true → name_length bs ≤ 7 → named (take (name_length bs) bs) ≡ true
 named_is bs l h =
     let n = length-take-le (name_length bs) bs (first_within (λ b. not (letter_or_digit b)) bs) in
     let few : leb (length (take (name_length bs) bs)) 7 ≡ true = grind (arith, nat_tests) in
-    and_true _ _ (named_some bs l) (and_true _ _ (named_every bs) few)
+    and_true _ _ (named_some bs l) (and_true _ _ (every_before letter_or_digit bs) few)
 
 single_split : (bs : List ℕ) → single bs ≡ true → (rest : List ℕ) × (bs ≡ 58 ∷ rest) × (begins 58 rest ≡ false)
 single_split [] e = absurd (cc)
@@ -98,10 +48,7 @@ symbol_found bs l h = go (single (drop (name_length bs) bs)) refl
         there (joined (take (name_length bs) bs)) s.0 (37 ∷ bs) w (and_true _ _ (named_is bs l h) (ap not s.2))
     go false e =
         there (symbol (take (name_length bs) bs)) (drop (name_length bs) bs) (37 ∷ bs) (ap (λ x. 37 ∷ x) (sym (take-append-drop (name_length bs) bs)))
-        (and_true _ _ (named_is bs l h) (and_true _ _ (ap not (named_stops bs)) (ap not e)))
-
-some_is : (p q : Piece) (bs : List ℕ) → Some p ≡ Some q → Found bs p → Found bs q
-some_is p q bs e f = let P : Piece → Type 0 = Found bs in let i : p ≡ q = cc in subst P i f
+        (and_true _ _ (named_is bs l h) (and_true _ _ (ap not (stops_after letter_or_digit bs)) (ap not e)))
 
 begins_split : (c : ℕ) (bs : List ℕ) → begins c bs ≡ true → (rest : List ℕ) × (bs ≡ c ∷ rest)
 begins_split c [] e = absurd (cc)

@@ -10,7 +10,7 @@ use Rattle.expressions.specs.declared.level.Token.{Token}
 use Rattle.expressions.specs.declared.level.Token.TheVariants.{Factor, Operator, Open, Close}
 use Rattle.expressions.specs.Trees.{Tree, number, name, signed, applied, group, Word, numeral, variable, operator, open', close, words_of, additive, Shape, as_sum, as_lead, as_product, as_factor, stands}
 use Rattle.expressions.specs.Walks.{Walker, join_with, left_of, level_of, fresh_level, Stage, stage_of, factored, operated_level, step_of}
-use Rattle.expressions.proofs.Naming.{both}
+use Rattle.expressions.proofs.Starts.{both}
 
 pub no : {X : Type 0} → false ≡ true → X
 no e = absurd (cc)

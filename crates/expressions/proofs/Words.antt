@@ -1,59 +1,24 @@
 -- The first word of an expression: what is read is there, and what is there is read.
 use Rattle.std.proofs.Common.{◌≡◌, ℕ, suc, ◌≤◌, Bool, true, false, cond, not, ◌&&◌, eqb, leb, List, [], ◌∷◌, ◌++◌, length, take, drop, Some, None, Option, sym, refl, ap, ◌∙◌, subst, arith}
-use Rattle.std.proofs.lemmas.List.{take-append-drop, take_at, drop_at}
+use Rattle.std.specs.List.{list_all}
+use Rattle.std.proofs.lemmas.List.{take-append-drop, take_at}
 use Rattle.std.proofs.lemmas.Bool.Decides.{nat_tests}
 use Rattle.expressions.specs.declared.level.Op.TheVariants.{Plus, Minus, Times, Over}
-use Rattle.expressions.specs.Classes.{digit, letter_or_digit, every, digits}
+use Rattle.expressions.specs.Classes.{digit, letter_or_digit, digits}
 use Rattle.expressions.specs.Firsts.{name_length}
 use Rattle.expressions.specs.Pieces.{letter_first, goes_on, named}
 use Rattle.expressions.specs.Trees.{Word, numeral, variable, operator, open', close, word_written, word_fits, digit_first}
 use Rattle.expressions.specs.Walks.{digits_length, variable_at, mark_at, first_word_of}
-use Rattle.expressions.proofs.Naming.{both, and_true, not_true, name_is, named_is, named_stops}
-use Rattle.expressions.proofs.Joining.{FoundPart, Reader}
-
-digits_every : (bs : List ℕ) → every digit (take (digits_length bs) bs) ≡ true
-digits_every [] = refl
-digits_every (b ∷ bs) = go (digit b) refl (digits_every bs)
-  where
-    go : (z : Bool) → digit b ≡ z → every digit (take (digits_length bs) bs) ≡ true
-        → every digit (take (cond (not z) 0 (suc (digits_length bs))) (b ∷ bs)) ≡ true
-    go true e ih = and_true _ _ e ih
-    go false e ih = refl
-
-digits_stop : (bs : List ℕ) → digit_first (drop (digits_length bs) bs) ≡ false
-digits_stop [] = refl
-digits_stop (b ∷ bs) = go (digit b) refl (digits_stop bs)
-  where
-    go : (z : Bool) → digit b ≡ z → digit_first (drop (digits_length bs) bs) ≡ false
-        → digit_first (drop (cond (not z) 0 (suc (digits_length bs))) (b ∷ bs)) ≡ false
-    go true e ih = ih
-    go false e ih = e
-
-digits_is : (cs rest : List ℕ) → every digit cs ≡ true → digit_first rest ≡ false → digits_length (cs ++ rest) ≡ length cs
-digits_is [] [] e f = refl
-digits_is [] (b ∷ bs) e f = rw f refl
-digits_is (d ∷ cs) rest e f =
-    let p = both (digit d) (every digit cs) e in
-    go (digit d) p.0 (digits_is cs rest p.1 f)
-  where
-    go : (z : Bool) → z ≡ true → digits_length (cs ++ rest) ≡ length cs → cond (not z) 0 (suc (digits_length (cs ++ rest))) ≡ suc (length cs)
-    go true e ih = ap suc ih
-    go false e ih = absurd (cc)
-
-there : (p : Word) (rest bs : List ℕ) → bs ≡ word_written p ++ rest → word_fits p rest ≡ true → FoundPart word_written word_fits bs p
-there p rest bs e f =
-    let d : drop (length (word_written p)) bs ≡ rest = ap (drop (length (word_written p))) e ∙ drop_at (word_written p) rest _ refl in
-    record { here = ap (λ x. word_written p ++ x) d ∙ sym e; fits = ap (word_fits p) d ∙ f }
-
-some_is : (p q : Word) (bs : List ℕ) → Some p ≡ Some q → FoundPart word_written word_fits bs p → FoundPart word_written word_fits bs q
-some_is p q bs e f = let P : Word → Type 0 = FoundPart word_written word_fits bs in let i : p ≡ q = cc in subst P i f
+use Rattle.expressions.proofs.Starts.{both, and_true, not_true, every_before, stops_after, run_is, FoundPart, there, some_is}
+use Rattle.expressions.proofs.Naming.{named_is}
+use Rattle.expressions.proofs.Joining.{Reader}
 
 numeral_found : (b : ℕ) (bs : List ℕ) → digit b ≡ true → FoundPart word_written word_fits (b ∷ bs) (numeral (take (digits_length (b ∷ bs)) (b ∷ bs)))
 numeral_found b bs e =
     let cs = b ∷ bs in
     let f : digit_first (take (digits_length cs) cs) ≡ true = ap (λ z. digit_first (take (cond (not z) 0 (suc (digits_length bs))) cs)) e ∙ e in
     there (numeral (take (digits_length cs) cs)) (drop (digits_length cs) cs) cs (sym (take-append-drop (digits_length cs) cs))
-    (and_true _ _ (and_true _ _ f (digits_every cs)) (ap not (digits_stop cs)))
+    (and_true _ _ (and_true _ _ f (every_before digit cs)) (ap not (stops_after digit cs)))
 
 variable_found : (bs : List ℕ) (p : Word) → variable_at bs ≡ Some p → FoundPart word_written word_fits (37 ∷ bs) p
 variable_found bs p f = go (letter_first bs && leb (name_length bs) 7) refl f
@@ -63,7 +28,7 @@ variable_found bs p f = go (letter_first bs && leb (name_length bs) 7) refl f
         let t = both (letter_first bs) (leb (name_length bs) 7) e in
         let few : name_length bs ≤ 7 = grind (arith, nat_tests) in
         some_is _ p (37 ∷ bs) f (there (variable (take (name_length bs) bs)) (drop (name_length bs) bs) (37 ∷ bs) (ap (λ x. 37 ∷ x) (sym (take-append-drop (name_length bs) bs)))
-        (and_true _ _ (named_is bs t.0 few) (ap not (named_stops bs))))
+        (and_true _ _ (named_is bs t.0 few) (ap not (stops_after letter_or_digit bs))))
     go false e f = absurd (cc)
 
 mark_one : (b k : ℕ) (bs : List ℕ) (p q : Word) (other : Option Word) → word_written p ≡ k ∷ [] → ((rest : List ℕ) → word_fits p rest ≡ true)
@@ -109,14 +74,14 @@ word_complete (numeral []) rest e = absurd (cc)
 word_complete (numeral (d ∷ ds)) rest e =
     let a = both (digit d && digits (d ∷ ds)) (not (digit_first rest)) e in
     let b = both (digit d) (digits (d ∷ ds)) a.0 in
-    let n : digits_length ((d ∷ ds) ++ rest) ≡ length (d ∷ ds) = digits_is (d ∷ ds) rest b.1 (not_true _ a.1) in
+    let n : digits_length ((d ∷ ds) ++ rest) ≡ length (d ∷ ds) = run_is digit (d ∷ ds) rest b.1 (not_true _ a.1) in
     let t : take (digits_length ((d ∷ ds) ++ rest)) ((d ∷ ds) ++ rest) ≡ d ∷ ds = ap (λ k. take k ((d ∷ ds) ++ rest)) n ∙ take_at (d ∷ ds) rest _ refl in
     ap (λ z. cond z (Some (numeral (take (digits_length ((d ∷ ds) ++ rest)) ((d ∷ ds) ++ rest)))) (cond (eqb d 37) (variable_at (ds ++ rest)) (mark_at d))) b.0 ∙ ap (λ x. Some (numeral x)) t
 word_complete (variable cs) rest e =
     let c = both (named cs) (not (goes_on rest)) e in
-    let a = both (letter_first cs) (every letter_or_digit cs && leb (length cs) 7) c.0 in
-    let b = both (every letter_or_digit cs) (leb (length cs) 7) a.1 in
-    let n : name_length (cs ++ rest) ≡ length cs = name_is cs rest b.0 (not_true _ c.1) in
+    let a = both (letter_first cs) (list_all letter_or_digit cs && leb (length cs) 7) c.0 in
+    let b = both (list_all letter_or_digit cs) (leb (length cs) 7) a.1 in
+    let n : name_length (cs ++ rest) ≡ length cs = run_is letter_or_digit cs rest b.0 (not_true _ c.1) in
     let few : leb (name_length (cs ++ rest)) 7 ≡ true = ap (λ k. leb k 7) n ∙ b.1 in
     let t : take (name_length (cs ++ rest)) (cs ++ rest) ≡ cs = ap (λ k. take k (cs ++ rest)) n ∙ take_at cs rest _ refl in
     let test : letter_first (cs ++ rest) && leb (name_length (cs ++ rest)) 7 ≡ true = and_true _ _ (letter_stays cs rest a.0) few in

@@ -4,7 +4,7 @@ use Rattle.std.specs.Option.{option_and_then, option_map}
 use Rattle.std.specs.Result.{result_and}
 use Rattle.std.proofs.lemmas.List.{drop-drop, take_rest, length-reverse, length-take-le}
 use Rattle.expressions.specs.declared.flaws.Flaw.{Flaw}
-use Rattle.expressions.specs.declared.flaws.Flaw.TheVariants.{NoForm, UnknownSymbol}
+use Rattle.expressions.specs.declared.flaws.Flaw.TheVariants.{UnknownSymbol}
 use Rattle.expressions.specs.declared.level.Level.{Level}
 use Rattle.expressions.specs.declared.level.Walk.{Walk}
 use Rattle.expressions.specs.declared.level.WordRead.{WordRead}
@@ -15,8 +15,8 @@ use Rattle.expressions.specs.Trees.{Tree, Word, numeral, variable, operator, ope
 use Rattle.expressions.specs.Walks.{walker_of, join_with, level_of, fresh_level, Stage, stage_of, step_of, token_in, waits_in, stage_in, Stands, Stepped, Ended, first_word_of}
 use Rattle.expressions.specs.Joins.{join_of, PartsOf}
 use Rattle.expressions.specs.Words.{known_or, read_in}
-use Rattle.expressions.proofs.Naming.{both}
-use Rattle.expressions.proofs.Joining.{Come, come_start, come_more, come_all, come_next, one_join}
+use Rattle.expressions.proofs.Starts.{both}
+use Rattle.expressions.proofs.Joining.{Come, come_start, come_more, come_all, come_next, one_join, all_push, none_read}
 use Rattle.expressions.proofs.Words.{word_reader, word_sound}
 use Rattle.expressions.proofs.Apart.{parts_of}
 use Rattle.expressions.proofs.Parsing.{tree_walker, tree_token, runs, runs_append, runs_tree, start, sums_of, last_of, same_tree}
@@ -40,8 +40,8 @@ pub record Gone {V : Type 0} (k : Operations V) (σ : Table) (most : ℕ) (text 
   pub place : Stands walk (map_s (value_in k σ) tree) most
   pub asked : known ≡ known_or (words_known σ ws)
 
-pub gone_start : {V : Type 0} (k : Operations V) (σ : Table) (most : ℕ) (text : List ℕ) (walk : Walk V) → Stands walk (stage_of fresh_level None []) most → Gone k σ most text text walk (Ok tt)
-gone_start k σ most text walk place = record { here = 0; left = refl; ws = []; come = come_start word_reader text; tree = start; ran = refl; law = start_law most; words = refl; place = place; asked = refl }
+pub gone_start : {V : Type 0} {k : Operations V} {σ : Table} {most : ℕ} {text : List ℕ} {walk : Walk V} → Stands walk (stage_of fresh_level None []) most → Gone k σ most text text walk (Ok tt)
+gone_start {most = most} {text = text} place = record { here = 0; left = refl; ws = []; come = come_start word_reader text; tree = start; ran = refl; law = start_law most; words = refl; place = place; asked = refl }
 
 -- the word that was read
 read_word : {V : Type 0} (k : Operations V) (σ : Table) (o : Option Word) (r : WordRead V) → Ok r ≡ read_in k σ o → (w : Word) × (o ≡ Some w) × (r.token ≡ token_in k σ w) × (r.width ≡ length (word_written w)) × (r.known ≡ known_or (word_known σ w))
@@ -49,10 +49,6 @@ read_word k σ None r e = absurd (cc)
 read_word k σ (Some w) r e =
     let i : r ≡ record { token = token_in k σ w; width = length (word_written w); known = known_or (word_known σ w) } = cc in
     (w, refl, ap (λ x. x.token) i, ap (λ x. x.width) i, ap (λ x. x.known) i)
-
-read_none : {V : Type 0} (k : Operations V) (σ : Table) (o : Option Word) (f : Flaw) → Err f ≡ read_in k σ o → (o ≡ None) × (f ≡ NoForm)
-read_none k σ None f e = (refl, cc)
-read_none k σ (Some w) f e = absurd (cc)
 
 word_is_ok : (w : Word) (rest : List ℕ) → word_fits w rest ≡ true → word_ok w ≡ true
 word_is_ok (numeral ds) rest e = (both (digit_first ds && digits ds) (not (digit_first rest)) e).0
@@ -92,18 +88,6 @@ known_both : (a b : Bool) → result_and (known_or a) (known_or b) ≡ known_or 
 known_both true b = refl
 known_both false b = refl
 
-known_push : (σ : Table) (ws : List Word) (w : Word) → words_known σ (ws ++ (w ∷ [])) ≡ words_known σ ws && word_known σ w
-known_push σ [] w = go (word_known σ w)
-  where
-    go : (z : Bool) → z && true ≡ true && z
-    go true = refl
-    go false = refl
-known_push σ (x ∷ ws) w = ap (λ y. word_known σ x && y) (known_push σ ws w) ∙ go (word_known σ x)
-  where
-    go : (z : Bool) → z && (words_known σ ws && word_known σ w) ≡ (z && words_known σ ws) && word_known σ w
-    go true = refl
-    go false = refl
-
 -- the walk to trees takes the same step
 same_step : {V : Type 0} (f : Tree → V) (o : Option (Stage Tree)) (s : Stage V) → option_map (map_s f) o ≡ Some s → (t : Stage Tree) × (o ≡ Some t) × (s ≡ map_s f t)
 same_step f None s e = none_is s e
@@ -118,10 +102,10 @@ step_of_word : {V : Type 0} (k : Operations V) (σ : Table) (most : ℕ) (tree :
 step_of_word k σ most tree walk w r place t =
     ap (λ m. step_of (walker_of k) m (stage_in walk) r.token) place.1 ∙ (ap₂ (step_of (walker_of k) most) place.0 t ∙ step_map k σ most tree w)
 
-pub gone_more : {V : Type 0} (k : Operations V) (σ : Table) (most : ℕ) (text rest next : List ℕ) (walk on : Walk V) (known both : Result (Unit {0}) Flaw) (r : WordRead V)
+pub gone_more : {V : Type 0} {k : Operations V} {σ : Table} {most : ℕ} {text rest next : List ℕ} {walk on : Walk V} {known both : Result (Unit {0}) Flaw} (r : WordRead V)
     → next ≡ drop r.width rest → both ≡ result_and known r.known → Ok r ≡ read_in k σ (first_word_of rest) → Stepped (walker_of k) walk on r.token (Ok tt)
     → Gone k σ most text rest walk known → Gone k σ most text next on both
-gone_more k σ most text rest next walk on known both r cut joint e step gone =
+gone_more {k = k} {σ = σ} {most = most} {text = text} {rest = rest} {walk = walk} {on = on} r cut joint e step gone =
     let p = read_word k σ (first_word_of rest) r e in
     let w = p.0 in
     let t = same_step (value_in k σ) (step_of tree_walker most gone.tree (tree_token w)) (stage_in on) (sym (step_of_word k σ most gone.tree walk w r gone.place p.2) ∙ step.0) in
@@ -137,37 +121,37 @@ gone_more k σ most text rest next walk on known both r cut joint e step gone =
       law = kept.law;
       words = kept.words ∙ ap (λ x. x ++ (w ∷ [])) gone.words;
       place = (t.2, step.1 ∙ gone.place.1);
-      asked = joint ∙ (ap₂ result_and gone.asked p.4 ∙ (known_both (words_known σ gone.ws) (word_known σ w) ∙ ap known_or (sym (known_push σ gone.ws w))));
+      asked = joint ∙ (ap₂ result_and gone.asked p.4 ∙ (known_both (words_known σ gone.ws) (word_known σ w) ∙ ap known_or (sym (all_push (word_known σ) gone.ws w))));
     }
 
 -- bytes are left in the text
-some_left : {V : Type 0} (k : Operations V) (σ : Table) (most : ℕ) (text rest : List ℕ) (walk : Walk V) (known : Result (Unit {0}) Flaw) → 0 < length rest → (gone : Gone k σ most text rest walk known) → gone.here < length text
-some_left k σ most text rest walk known more gone =
+some_left : {V : Type 0} {k : Operations V} {σ : Table} {most : ℕ} {text rest : List ℕ} {walk : Walk V} {known : Result (Unit {0}) Flaw} → 0 < length rest → (gone : Gone k σ most text rest walk known) → gone.here < length text
+some_left {text = text} more gone =
     let n = ap length gone.left in
     let d = length-drop gone.here text in
     omega arith
 
 -- no bytes are left in the text
-none_left : {V : Type 0} (k : Operations V) (σ : Table) (most : ℕ) (text rest : List ℕ) (walk : Walk V) (known : Result (Unit {0}) Flaw) → length rest ≡ 0 → (gone : Gone k σ most text rest walk known) → length text ≤ gone.here
-none_left k σ most text rest walk known past gone =
+none_left : {V : Type 0} {k : Operations V} {σ : Table} {most : ℕ} {text rest : List ℕ} {walk : Walk V} {known : Result (Unit {0}) Flaw} → length rest ≡ 0 → (gone : Gone k σ most text rest walk known) → length text ≤ gone.here
+none_left {text = text} past gone =
     let n = ap length gone.left in
     let d = length-drop gone.here text in
     omega arith
 
 -- no tree is written where no word stands
-pub no_word : {V : Type 0} (k : Operations V) (σ : Table) (most : ℕ) (text rest : List ℕ) (walk : Walk V) (known : Result (Unit {0}) Flaw) (f : Flaw)
+pub no_word : {V : Type 0} {k : Operations V} {σ : Table} {most : ℕ} {text rest : List ℕ} {walk : Walk V} {known : Result (Unit {0}) Flaw} {f : Flaw}
     → 0 < length rest → Err f ≡ read_in k σ (first_word_of rest) → Gone k σ most text rest walk known → NoValue σ most text f
-no_word k σ most text rest walk known f more e gone =
-    let n = read_none k σ (first_word_of rest) f e in
+no_word {k = k} {σ = σ} {most = most} {text = text} {rest = rest} {f = f} more e gone =
+    let n = none_read (read_in k σ) refl (λ w. (_, refl)) (first_word_of rest) f e in
     let P : Flaw → Type 0 = NoValue σ most text in
     subst P (sym n.1)
-    (λ t w. let c = come_next word_reader text gone.here gone.ws (words_of t) (some_left k σ most text rest walk known more gone) gone.come (parts_of most t text w) in
+    (λ t w. let c = come_next word_reader text gone.here gone.ws (words_of t) (some_left more gone) gone.come (parts_of most t text w) in
     none_is c.0 (sym n.0 ∙ (ap first_word_of (sym gone.left) ∙ c.2)))
 
 -- no tree is written where a word may not follow
-pub no_place : {V : Type 0} (k : Operations V) (σ : Table) (most : ℕ) (text rest : List ℕ) (walk on : Walk V) (known : Result (Unit {0}) Flaw) (r : WordRead V) (f : Flaw)
+pub no_place : {V : Type 0} {k : Operations V} {σ : Table} {most : ℕ} {text rest : List ℕ} {walk : Walk V} (on : Walk V) {known : Result (Unit {0}) Flaw} (r : WordRead V) {f : Flaw}
     → Ok r ≡ read_in k σ (first_word_of rest) → Stepped (walker_of k) walk on r.token (Err f) → Gone k σ most text rest walk known → NoValue σ most text f
-no_place k σ most text rest walk on known r f e step gone =
+no_place {k = k} {σ = σ} {most = most} {text = text} {rest = rest} {walk = walk} on r e step gone =
     let p = read_word k σ (first_word_of rest) r e in
     let w = p.0 in
     let wide = word_width k σ rest r e in
@@ -175,7 +159,7 @@ no_place k σ most text rest walk on known r f e step gone =
     let none = no_step (value_in k σ) (step_of tree_walker most gone.tree (tree_token w)) (sym (step_of_word k σ most gone.tree walk w r gone.place p.2) ∙ step.0) in
     let P : Flaw → Type 0 = NoValue σ most text in
     subst P (sym step.1)
-    (λ t u. let c = come_next word_reader text gone.here gone.ws (words_of t) (some_left k σ most text rest walk known more gone) gone.come (parts_of most t text u) in
+    (λ t u. let c = come_next word_reader text gone.here gone.ws (words_of t) (some_left more gone) gone.come (parts_of most t text u) in
     let same : c.0 ≡ w = some_is _ _ (sym c.2 ∙ (ap first_word_of gone.left ∙ p.1)) in
     let ran : runs most start (words_of t) ≡ None = ap (runs most start) c.3 ∙ (runs_append most start gone.ws (c.0 ∷ c.1) ∙ (ap (option_and_then (λ s. runs most s (c.0 ∷ c.1))) gone.ran ∙ (ap (λ x. runs most gone.tree (x ∷ c.1)) same ∙ ap (option_and_then (λ s. runs most s c.1)) none))) in
     none_is _ (sym ran ∙ runs_tree most t u.whole))
@@ -199,9 +183,9 @@ pub record Whole {V : Type 0} (k : Operations V) (σ : Table) (most : ℕ) (text
   pub value : v ≡ value_in k σ tree
   pub asked : known ≡ known_or (words_known σ (words_of tree))
 
-pub gone_whole : {V : Type 0} (k : Operations V) (σ : Table) (most : ℕ) (text rest : List ℕ) (walk : Walk V) (known : Result (Unit {0}) Flaw) (v : V)
+pub gone_whole : {V : Type 0} {k : Operations V} {σ : Table} {most : ℕ} {text rest : List ℕ} {walk : Walk V} {known : Result (Unit {0}) Flaw} {v : V}
     → length rest ≡ 0 → Ended k walk (Ok v) → Gone k σ most text rest walk known → Whole k σ most text known v
-gone_whole k σ most text rest walk known v past end gone =
+gone_whole {k = k} {σ = σ} {most = most} {text = text} {walk = walk} past end gone =
     let f = value_in k σ in
     let s = gone.tree in
     let a = after_some f s.after end.0 (sym (ap (λ x. x.after) gone.place.0) ∙ end.1) in
@@ -212,7 +196,7 @@ gone_whole k σ most text rest walk known v past end gone =
     let t = ends_in_tree most s.level a.0 (subst P whole gone.law) in
     let u = join_with tree_walker s.level.sums a.0 in
     let words : words_of u ≡ gone.ws = t.1 ∙ (ap stage_words (sym whole) ∙ gone.words) in
-    let parts = come_all word_reader text gone.here gone.ws (none_left k σ most text rest walk known past gone) gone.come in
+    let parts = come_all word_reader text gone.here gone.ws (none_left past gone) gone.come in
     record {
       tree = u;
       writes = record { whole = t.0; words = ap (join_of word_written) words ∙ parts.0 };
@@ -220,11 +204,11 @@ gone_whole k σ most text rest walk known v past end gone =
       asked = gone.asked ∙ ap (λ ws. known_or (words_known σ ws)) (sym words);
     }
 
-pub no_end : {V : Type 0} (k : Operations V) (σ : Table) (most : ℕ) (text rest : List ℕ) (walk : Walk V) (known : Result (Unit {0}) Flaw) (f : Flaw)
+pub no_end : {V : Type 0} {k : Operations V} {σ : Table} {most : ℕ} {text rest : List ℕ} {walk : Walk V} {known : Result (Unit {0}) Flaw} {f : Flaw}
     → length rest ≡ 0 → Ended k walk (Err f) → Gone k σ most text rest walk known → NoValue σ most text f
-no_end k σ most text rest walk known f past end gone =
+no_end {k = k} {σ = σ} {most = most} {text = text} {walk = walk} past end gone =
     let P : Flaw → Type 0 = NoValue σ most text in
-    let parts = come_all word_reader text gone.here gone.ws (none_left k σ most text rest walk known past gone) gone.come in
+    let parts = come_all word_reader text gone.here gone.ws (none_left past gone) gone.come in
     let deep = waits_depth walk in
     subst P (sym end.0)
     (λ t w. let same : gone.ws ≡ words_of t = one_join word_reader gone.ws (words_of t) text parts (parts_of most t text w) in
@@ -242,11 +226,11 @@ known_err true f e = absurd (cc)
 known_err false f e = (cc, refl)
 
 -- what is told at the end: the value, or that a symbol is unknown
-pub gone_told : {V : Type 0} (k : Operations V) (σ : Table) (most : ℕ) (text : List ℕ) (known : Result (Unit {0}) Flaw) (v : V) → known ≡ Ok tt → Whole k σ most text known v → Worked k σ most text (Ok v)
-gone_told k σ most text known v e w = (w.tree, w.writes, known_ok _ (sym w.asked ∙ e), w.value)
+pub gone_told : {V : Type 0} {k : Operations V} {σ : Table} {most : ℕ} {text : List ℕ} {known : Result (Unit {0}) Flaw} {v : V} → known ≡ Ok tt → Whole k σ most text known v → Worked k σ most text (Ok v)
+gone_told e w = (w.tree, w.writes, known_ok _ (sym w.asked ∙ e), w.value)
 
-pub gone_unknown : {V : Type 0} (k : Operations V) (σ : Table) (most : ℕ) (text : List ℕ) (known : Result (Unit {0}) Flaw) (v : V) (f : Flaw) → known ≡ Err f → Whole k σ most text known v → NoValue σ most text f
-gone_unknown k σ most text known v f e w =
+pub gone_unknown : {V : Type 0} {k : Operations V} {σ : Table} {most : ℕ} {text : List ℕ} {known : Result (Unit {0}) Flaw} {v : V} {f : Flaw} → known ≡ Err f → Whole k σ most text known v → NoValue σ most text f
+gone_unknown {σ = σ} {most = most} {text = text} {f = f} e w =
     let p = known_err (words_known σ (words_of w.tree)) f (sym w.asked ∙ e) in
     let P : Flaw → Type 0 = NoValue σ most text in
     subst P (sym p.0) (w.tree, w.writes, p.1)

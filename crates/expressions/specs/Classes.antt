@@ -1,5 +1,5 @@
 -- Characters: what one begins, letters and digits.
-use Rattle.std.specs.Prelude.{ℕ, Bool, cond, ◌&&◌, ◌||◌, List, ◌==◌, nat_le}
+use Rattle.std.specs.Prelude.{ℕ, Bool, false, cond, ◌&&◌, ◌||◌, List, [], ◌∷◌, ◌==◌, nat_le}
 use Rattle.std.specs.List.{list_all}
 use Rattle.expressions.specs.declared.classes.Class.{Class}
 use Rattle.expressions.specs.declared.classes.Class.TheVariants.{Variable, Sequence, Colon, Apostrophe, Plain}
@@ -20,10 +20,11 @@ letter b = nat_le 65 b && nat_le b 90
 abbrev pub letter_or_digit : ℕ → Bool
 letter_or_digit b = letter b || digit b
 
--- every byte passes the test
-abbrev pub every : (ℕ → Bool) → List ℕ → Bool
-every p bs = list_all p bs
-
 -- every byte is a digit
 abbrev pub digits : List ℕ → Bool
-digits bs = every digit bs
+digits bs = list_all digit bs
+
+-- the bytes begin with one that passes the test
+abbrev pub starts : (ℕ → Bool) → List ℕ → Bool
+starts test [] = false
+starts test (b ∷ bs) = test b

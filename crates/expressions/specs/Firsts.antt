@@ -6,11 +6,15 @@ use Rattle.expressions.specs.declared.flaws.Flaw.{Flaw}
 use Rattle.expressions.specs.declared.flaws.Flaw.TheVariants.{NoForm}
 use Rattle.expressions.specs.declared.piece.Reading.{Reading}
 use Rattle.expressions.specs.Classes.{letter_or_digit}
-use Rattle.expressions.specs.Pieces.{Piece, plain, percent, colons, symbol, joined, piece_written, begins, single, letter_first, gives_of}
+use Rattle.expressions.specs.Pieces.{Piece, plain, percent, colons, symbol, joined, piece_written, begins, single, letter_first, name_of, gives_of}
 
 -- how many letters and digits stand first
 abbrev pub name_length : List ℕ → ℕ
 name_length bs = first_by (λ b. not (letter_or_digit b)) bs
+
+-- the name of the symbol that stands after a %, and how many letters and digits it has there
+abbrev pub name_at : List ℕ → Result (List ℕ × ℕ) Flaw
+name_at bs = cond (letter_first bs && nat_le (name_length bs) 7) (Ok (name_of (take (name_length bs) bs), name_length bs)) (Err NoForm)
 
 -- a symbol of so many letters and digits, with the colon that vanishes
 abbrev pub symbol_of : ℕ → List ℕ → Piece

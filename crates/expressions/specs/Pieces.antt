@@ -1,11 +1,12 @@
 -- A field as pieces: how each is written, what may follow it, and the text that it becomes.
-use Rattle.std.specs.Prelude.{◌≡◌, ℕ, ◌<◌, ◌≤◌, Bool, true, false, not, ◌&&◌, List, [], ◌∷◌, ◌++◌, length, drop, replicate, Some, None, Ok, Err, Option, Result, ◌==◌, nat_le}
+use Rattle.std.specs.Prelude.{◌≡◌, ℕ, ◌<◌, ◌≤◌, Bool, true, false, not, ◌&&◌, List, [], ◌∷◌, ◌++◌, length, drop, replicate, Some, None, Ok, Err, Option, Result, ◌==◌, nat_le, is_some}
+use Rattle.std.specs.List.{list_all}
 use Rattle.expressions.specs.declared.flaws.Flaw.{Flaw}
 use Rattle.expressions.specs.declared.flaws.Flaw.TheVariants.{NoForm, UnknownSymbol, NotDigits, OutOfRange, ZeroDivisor}
 use Rattle.expressions.specs.declared.piece.Gives.{Gives}
 use Rattle.expressions.specs.declared.piece.Gives.TheVariants.{Byte, Named}
 use Rattle.expressions.specs.declared.symbol.Symbol.{Symbol}
-use Rattle.expressions.specs.Classes.{letter, letter_or_digit, every}
+use Rattle.expressions.specs.Classes.{letter, letter_or_digit, starts}
 use Rattle.expressions.specs.Joins.{join_of, PartsOf}
 use Rattle.expressions.specs.Numbers.{shown}
 
@@ -27,27 +28,25 @@ piece_written (joined cs) = 37 ∷ (cs ++ (58 ∷ []))
 
 -- the bytes begin with this one
 abbrev pub begins : ℕ → List ℕ → Bool
-begins c [] = false
-begins c (b ∷ bs) = b == c
+begins c bs = starts (λ b. b == c) bs
 
 -- the bytes begin with a colon that no colon follows
 abbrev pub single : List ℕ → Bool
 single [] = false
 single (b ∷ bs) = b == 58 && not (begins 58 bs)
 
--- the bytes begin with a letter
+-- the bytes begin with a letter; by cases: with it as `starts letter` the check does not find the bounds in work_out
 abbrev pub letter_first : List ℕ → Bool
 letter_first [] = false
 letter_first (b ∷ bs) = letter b
 
 -- the bytes begin with a letter or a digit
 abbrev pub goes_on : List ℕ → Bool
-goes_on [] = false
-goes_on (b ∷ bs) = letter_or_digit b
+goes_on bs = starts letter_or_digit bs
 
 -- what follows the % of a symbol: a letter, then letters and digits, at most seven in all
 abbrev pub named : List ℕ → Bool
-named cs = letter_first cs && (every letter_or_digit cs && nat_le (length cs) 7)
+named cs = letter_first cs && (list_all letter_or_digit cs && nat_le (length cs) 7)
 
 -- what may follow a piece: pieces are read from the left, a symbol as far as it goes, and only a single colon right after it vanishes
 abbrev pub fits : Piece → List ℕ → Bool
@@ -90,8 +89,7 @@ shown_if None = []
 shown_if (Some s) = shown s
 
 abbrev pub is_known : Option Symbol → Bool
-is_known None = false
-is_known (Some s) = true
+is_known o = is_some o
 
 -- the text of what a piece gives; that of an unknown symbol is empty
 abbrev pub given_text : Table → Gives → List ℕ
@@ -109,8 +107,7 @@ text_of_all t (p ∷ ps) = given_text t (gives_of p) ++ text_of_all t ps
 
 -- every symbol among the pieces is known
 abbrev pub all_known : Table → List Piece → Bool
-all_known t [] = true
-all_known t (p ∷ ps) = given_known t (gives_of p) && all_known t ps
+all_known t ps = list_all (λ p. given_known t (gives_of p)) ps
 
 -- why a field has no text: it is no join of pieces, or it is and one of its symbols is unknown
 abbrev pub Refused : Table → List ℕ → Flaw → Type 0

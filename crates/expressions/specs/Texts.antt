@@ -4,4 +4,4 @@ use Rattle.expressions.specs.declared.text.Text.{Text}
 
 -- the bytes of a text
 abbrev pub text_of : Text → List ℕ
-text_of t = t.bytes.items
+text_of t = t.bytes

@@ -1,10 +1,11 @@
 -- Expressions as trees: how a tree is written, when it stands, and its value.
 use Rattle.std.specs.Prelude.{◌≡◌, ℕ, suc, Bool, true, false, cond, not, ◌&&◌, List, [], ◌∷◌, ◌++◌, Ok, Err, Result, nat_lt}
+use Rattle.std.specs.List.{list_all}
 use Rattle.expressions.specs.declared.flaws.Flaw.{Flaw}
 use Rattle.expressions.specs.declared.flaws.Flaw.TheVariants.{NoForm, UnknownSymbol, NotDigits, OutOfRange, ZeroDivisor}
 use Rattle.expressions.specs.declared.level.Op.{Op}
 use Rattle.expressions.specs.declared.level.Op.TheVariants.{Plus, Minus, Times, Over}
-use Rattle.expressions.specs.Classes.{digit, digits}
+use Rattle.expressions.specs.Classes.{digit, digits, starts}
 use Rattle.expressions.specs.Joins.{join_of}
 use Rattle.expressions.specs.Kinds.{Operations}
 use Rattle.expressions.specs.Pieces.{goes_on, named, name_of, Table, is_known}
@@ -50,8 +51,7 @@ word_written close = 41 ∷ []
 
 -- the bytes begin with a digit
 abbrev pub digit_first : List ℕ → Bool
-digit_first [] = false
-digit_first (b ∷ bs) = digit b
+digit_first bs = starts digit bs
 
 -- what may follow a word: digits and names are read as far as they go
 abbrev pub word_fits : Word → List ℕ → Bool
@@ -140,8 +140,7 @@ word_known σ open' = true
 word_known σ close = true
 
 abbrev pub words_known : Table → List Word → Bool
-words_known σ [] = true
-words_known σ (w ∷ ws) = word_known σ w && words_known σ ws
+words_known σ ws = list_all (word_known σ) ws
 
 -- why an expression has no value: it is no tree, or a symbol of its tree is unknown
 abbrev pub NoValue : Table → ℕ → List ℕ → Flaw → Type 0

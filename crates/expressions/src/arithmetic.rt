@@ -1,24 +1,13 @@
 // Arithmetic: an expression worked out from the left in any kind of number.
 ghost use Rattle.std.specs.Prelude.{length};
 ghost use Rattle.expressions.specs.Trees.{OneTree, Worked};
-ghost use Rattle.expressions.specs.Walks.{Ended};
 
 use crate::flaws::Flaw;
 use crate::level::{Level, Walk};
 use crate::number::Number;
 use crate::symbols::Symbols;
 use crate::tokens::first_word;
-use crate::walks::{fresh_level, joined};
-
-// The value of a walk that may end here.
-fn ended<V: Number>(walk: &Walk<'_, V>) -> Result<V, Flaw>
-    ensures { Ended V.Number.operations walk.now result }
-{
-    match walk.after {
-        Some(product) if walk.depth == 0 => Ok(joined(walk.level.sums, product)),
-        _ => Err(Flaw::NoForm),
-    }
-}
+use crate::walks::fresh_level;
 
 // The value of an expression; the table has a row for each parenthesis that may be open at a time.
 #[tactic(auto, using(crate::proofs::Working::one_tree, crate::proofs::Working::word_within, crate::proofs::Working::word_shorter))]
@@ -44,7 +33,7 @@ pub fn work_out<S: Symbols, V: Number>(
         known = known.and(word.known);
         rest = &rest[word.width..];
     }
-    let value = ended(&walk)?;
+    let value = walk.ended()?;
     known?;
     Ok(value)
 }

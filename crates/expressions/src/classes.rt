@@ -29,14 +29,14 @@ pub fn class_of(character: char) -> Class
 pub fn is_digit(byte: u8) -> bool
     ensures { result ≡ digit byte }
 {
-    matches!(byte, b'0'..=b'9')
+    byte.is_ascii_digit()
 }
 
 // Is the byte a letter, A to Z?
 pub fn is_letter(byte: u8) -> bool
     ensures { result ≡ letter byte }
 {
-    matches!(byte, b'A'..=b'Z')
+    byte.is_ascii_uppercase()
 }
 
 // Is the byte a letter or a digit?

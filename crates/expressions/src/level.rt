@@ -40,12 +40,14 @@ pub(crate) enum Token<V> {
 pub(crate) struct Walk<'a, V> {
     pub(crate) level: Level<V>,
     pub(crate) after: Option<V>,
+    // How many rows of the lent table are in use. Its rows are the caller's limit, which an ArrayVec would put into the type.
     pub(crate) depth: usize,
     pub(crate) levels: &'a mut [Level<V>],
     ghost room: { depth ≤ length levels.now },
 }
 
-// A word that was read: what it is, how many bytes it takes, and the flaw if it is a symbol that is unknown.
+// A word that was read: what it is, how many bytes it takes (the walk cuts what is left by it, and the laws of reading
+// speak of widths), and the flaw if it is a symbol that is unknown.
 #[derive(Clone, Copy)]
 pub(crate) struct WordRead<V> {
     pub(crate) token: Token<V>,

@@ -20,7 +20,7 @@ pub fn all_digits(text: &[u8]) -> bool
     text.iter().all(|byte| is_digit(*byte))
 }
 
-// The number that digits write, of any count, if it is in range.
+// The number that digits write, of any count, if it is in range. Digit by digit: `parse` reads a str, and these are bytes.
 pub fn written_number(text: &[u8]) -> Result<i32, Flaw>
     ensures { result ≡ ranged (value_of text.now) }
 {
@@ -57,6 +57,7 @@ pub fn number_text(number: i32) -> Text
 fn last_digit(number: u16) -> u8
     ensures { result ≡ 48 + number % 10 }
 {
+    // Narrowed by `as`, which is proved: try_from would add a case that cannot happen.
     b'0' + (number % 10) as u8
 }
 
@@ -64,6 +65,7 @@ fn last_digit(number: u16) -> u8
 pub fn call_text(number: CallNumber) -> Text
     ensures { text_of result ≡ four_digits number.0 }
 {
+    // Digit by digit. Zeros stay, which itoa drops, and `format!` needs a heap.
     let n = number.0;
     Text::of(&[
         last_digit(n / 1000),

@@ -1,20 +1,15 @@
 // The first piece of a field.
-ghost use Rattle.std.specs.Prelude.{◌≡◌, ◌<◌, ◌≤◌, length, if◌then◌else◌, Some, Ok};
-ghost use Rattle.expressions.specs.Firsts.{after_percent, first, name_length, reading_of};
+ghost use Rattle.std.specs.Prelude.{◌≡◌, ◌≤◌, length, if◌then◌else◌, Some, Ok, MatchResult};
+ghost use Rattle.expressions.specs.Firsts.{after_percent, first, name_at, name_length, reading_of};
 ghost use Rattle.expressions.specs.Pieces.{begins, colons, letter_first, name_of, plain, single};
 
 use crate::classes::{Class, class_of, is_letter, is_letter_or_digit};
 use crate::flaws::Flaw;
 use crate::piece::{Gives, Reading};
-use crate::symbols::NAME;
-use lines::{BLANK, overwrite};
-
-pub(crate) const PERCENT: u8 = b'%';
-
-const COLON: u8 = b':';
+use lines::{BLANK, COLON, NAME_BYTES, PERCENT, overwrite};
 
 // The most letters and digits after a symbol's %.
-pub(crate) const MOST_AFTER: usize = 7;
+const MOST_AFTER: usize = NAME_BYTES - 1;
 
 // Do the bytes begin with this one?
 fn begins_with(bytes: &[u8], byte: u8) -> bool
@@ -24,7 +19,7 @@ fn begins_with(bytes: &[u8], byte: u8) -> bool
 }
 
 // Do the bytes begin with a letter?
-pub(crate) fn letter_first(bytes: &[u8]) -> bool
+fn letter_first(bytes: &[u8]) -> bool
     ensures { result ≡ letter_first bytes.now }
 {
     matches!(bytes, [first, ..] if is_letter(*first))
@@ -39,7 +34,7 @@ fn single_colon(bytes: &[u8]) -> bool
 
 // How many letters and digits stand first.
 #[tactic(auto, using(lines::proofs::Scans::first_found))]
-pub(crate) fn name_length(bytes: &[u8]) -> usize
+fn name_length(bytes: &[u8]) -> usize
     ensures value { result ≡ name_length bytes.now }
     ensures bound { result ≤ length bytes.now }
 {
@@ -50,14 +45,26 @@ pub(crate) fn name_length(bytes: &[u8]) -> usize
 }
 
 // The name of a symbol: % and its letters and digits, filled with blanks.
-pub(crate) fn name_of(letters: &[u8]) -> [u8; NAME]
+fn name_of(letters: &[u8]) -> [u8; NAME_BYTES]
     requires { length letters.now ≤ 7 }
     ensures { result ≡ name_of letters.now }
 {
-    let mut name = [BLANK; NAME];
+    let mut name = [BLANK; NAME_BYTES];
     name[0] = PERCENT;
     overwrite(&mut name[1..], letters);
     name
+}
+
+// The name of the symbol that stands after a %, and how many letters and digits it has there.
+pub(crate) fn symbol_name(rest: &[u8]) -> Result<([u8; NAME_BYTES], usize), Flaw>
+    ensures value { result ≡ name_at rest.now }
+    ensures bound { MatchResult result (λ n. n.1 ≤ length rest.now) (λ _. Unit {0}) }
+{
+    let len = name_length(rest);
+    if !letter_first(rest) || len > MOST_AFTER {
+        return Err(Flaw::NoForm);
+    }
+    Ok((name_of(&rest[..len]), len))
 }
 
 // The piece that a % begins, by what follows it.
@@ -70,18 +77,14 @@ fn after_percent(rest: &[u8]) -> Result<Reading, Flaw>
             width: 2,
         });
     }
-    let len = name_length(rest);
-    if !letter_first(rest) || len > MOST_AFTER {
-        return Err(Flaw::NoForm);
-    }
-    let (letters, after) = rest.split_at(len);
-    let width = if single_colon(after) {
+    let (name, len) = symbol_name(rest)?;
+    let width = if single_colon(&rest[len..]) {
         len + 2
     } else {
         len + 1
     };
     Ok(Reading {
-        gives: Gives::Named(name_of(letters)),
+        gives: Gives::Named(name),
         width,
     })
 }

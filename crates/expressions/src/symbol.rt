@@ -5,7 +5,7 @@ use crate::text::Text;
 #[derive(Clone, Copy, Debug, PartialEq, Eq)]
 pub struct CallNumber(pub u16);
 
-#[derive(Clone, Drop)]
+#[derive(Clone, Copy)]
 pub enum Symbol {
     Parameter(Text),
     Arithmetic(i32),

@@ -3,14 +3,12 @@ ghost use Rattle.std.specs.Prelude.{◌≡◌, ℕ, List, Option};
 ghost use Rattle.expressions.specs.declared.symbol.Symbol.{Symbol};
 
 use crate::symbol::Symbol;
-
-// A name without its %, filled with blanks.
-pub const NAME: usize = 8;
+use lines::NAME_BYTES;
 
 pub trait Symbols {
     // what a name of eight bytes means: nothing, or a kind with a value
     ghost meaning: { Self → List ℕ → Option Symbol };
 
-    fn find(&self, name: [u8; NAME]) -> Option<Symbol>
+    fn find(&self, name: [u8; NAME_BYTES]) -> Option<Symbol>
         ensures { result ≡ meaning self.now name };
 }

@@ -3,15 +3,14 @@ ghost use Rattle.std.specs.Prelude.{◌≡◌, ◌<◌, ◌≤◌, length, Match
 ghost use Rattle.expressions.specs.Texts.{text_of};
 
 use crate::text::Text;
-use arrayvec::ArrayVec;
-use std::alloc::AllocError;
+use lines::Short;
 
 impl Text {
-    // A text of these bytes, if they are at most 48.
+    // A text of these bytes, if they are at most 48; an Option, as `Short::new` answers it.
     pub fn new(text: &[u8]) -> Option<Text>
         ensures { MatchOption result (48 < length text.now) (λ t. text_of t ≡ text.now) }
     {
-        let bytes = ArrayVec::try_from(text).ok()?;
+        let bytes = Short::new(text)?;
         Some(Text { bytes })
     }
 
@@ -29,19 +28,5 @@ impl Text {
         ensures { text_of result ≡ text.now }
     {
         Text::new(text).unwrap()
-    }
-}
-
-// A copy of a text; it allocates nothing, so it never fails.
-impl Clone for Text {
-    ghost use Rattle.std.specs.Prelude.{⊤, ◌≡◌};
-    ghost use Rattle.expressions.specs.Texts.{text_of};
-
-    ghost is_clone = { λ text copy. text_of copy ≡ text_of text };
-
-    ghost is_infallible = { λ text. ⊤ };
-
-    fn clone(&self) -> Result<Text, AllocError> {
-        Ok(Text::of(self.bytes()))
     }
 }

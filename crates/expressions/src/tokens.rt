@@ -8,8 +8,9 @@ use crate::classes::is_digit;
 use crate::flaws::Flaw;
 use crate::level::{Op, Token, WordRead};
 use crate::number::Number;
-use crate::pieces::{MOST_AFTER, PERCENT, letter_first, name_length, name_of};
+use crate::pieces::symbol_name;
 use crate::symbols::Symbols;
+use lines::PERCENT;
 
 // How many digits stand first.
 #[tactic(auto, using(lines::proofs::Scans::first_found))]
@@ -47,11 +48,8 @@ fn mark<V: Number>(byte: u8) -> Result<WordRead<V>, Flaw>
 fn symbol_word<S: Symbols, V: Number>(symbols: &S, rest: &[u8]) -> Result<WordRead<V>, Flaw>
     ensures { ReadWord V.Number.operations (S.Symbols.meaning symbols.now) (variable_at rest.now) result }
 {
-    let len = name_length(rest);
-    if !letter_first(rest) || len > MOST_AFTER {
-        return Err(Flaw::NoForm);
-    }
-    let symbol = symbols.find(name_of(&rest[..len]));
+    let (name, len) = symbol_name(rest)?;
+    let symbol = symbols.find(name);
     let known = symbol.as_ref().map(|_| ()).ok_or(Flaw::UnknownSymbol);
     Ok(WordRead {
         token: Token::Factor(V::of_symbol(symbol)),

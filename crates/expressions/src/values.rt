@@ -18,6 +18,7 @@ pub const MOST_LEVELS: usize = 15;
 // A number that is worked out, or what was first found wrong on the way to it.
 pub type Value = Result<i32, Flaw>;
 
+// A sign before a number: a match, as only one of the four changes it.
 fn with_sign(sign: Op, number: i32) -> Value
     ensures { result ≡ whole_signed sign number }
 {
@@ -30,6 +31,7 @@ fn with_sign(sign: Op, number: i32) -> Value
 fn both_sides(left: i32, op: Op, right: i32) -> Value
     ensures { result ≡ whole_applied op left right }
 {
+    // A match: a table of closures would say the same four lines.
     let fitted = match op {
         Op::Plus => left.checked_add(right),
         Op::Minus => left.checked_sub(right),

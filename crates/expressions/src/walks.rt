@@ -1,21 +1,24 @@
 // One word of an expression, at its place in a table of levels.
 ghost use Rattle.std.specs.Prelude.{◌≡◌, length, Some, None};
 ghost use Rattle.expressions.specs.Trees.{additive};
-ghost use Rattle.expressions.specs.Walks.{Stands, Stepped, factored, fresh_level, is_fresh, join_with, operated_level, sign_with, waits_in, walker_of};
+ghost use Rattle.expressions.specs.Walks.{Ended, Stands, Stepped, factored, fresh_level, is_fresh, join_with, operated_level, sign_with, waits_in, walker_of};
 
 use crate::flaws::Flaw;
 use crate::level::{Left, Level, Op, Token, Walk};
 use crate::number::Number;
 
-// Is the operator + or -?
-fn is_additive(op: Op) -> bool
-    ensures { result ≡ additive op }
-{
-    matches!(op, Op::Plus | Op::Minus)
+impl Op {
+    // Is the operator + or -?
+    fn is_additive(self) -> bool
+        ensures { result ≡ additive self }
+    {
+        matches!(self, Op::Plus | Op::Minus)
+    }
 }
 
-// What waits, joined with its right side.
-pub(crate) fn joined<V: Number>(waiting: Option<Left<V>>, right: V) -> V
+// What waits, joined with its right side. Clauses name the operations as a walker, in which the grammar is written: a word for it
+// would rename it once more.
+fn joined<V: Number>(waiting: Option<Left<V>>, right: V) -> V
     ensures { result ≡ join_with (walker_of V.Number.operations) waiting right }
 {
     waiting.map_or(right, |left| left.value.applied(left.op, right))
@@ -28,14 +31,7 @@ fn with_sign<V: Number>(sign: Option<Op>, value: V) -> V
     sign.map_or(value, |op| value.signed(op))
 }
 
-// Is nothing read on the level?
-fn is_fresh<V: Number>(level: Level<V>) -> bool
-    ensures { result ≡ is_fresh level }
-{
-    level.sums.is_none() && level.products.is_none() && level.sign.is_none()
-}
-
-// A level on which nothing is read.
+// A level on which nothing is read. A function: a derived `Default` would ask `V: Default`.
 pub fn fresh_level<V: Number>() -> Level<V>
     ensures { result ≡ fresh_level }
 {
@@ -46,6 +42,33 @@ pub fn fresh_level<V: Number>() -> Level<V>
     }
 }
 
+impl<V: Number> Level<V> {
+    // Is nothing read on the level?
+    fn is_fresh(self) -> bool
+        ensures { result ≡ is_fresh self }
+    {
+        self.sums.is_none() && self.products.is_none() && self.sign.is_none()
+    }
+
+    // The level after an operator that follows a product.
+    fn operated(self, product: V, op: Op) -> Level<V>
+        ensures { result ≡ operated_level (walker_of V.Number.operations) self product op }
+    {
+        let (sums, products) = if op.is_additive() {
+            let value = joined(self.sums, product);
+            (Some(Left { value, op }), None)
+        } else {
+            (self.sums, Some(Left { value: product, op }))
+        };
+        Level {
+            sums,
+            products,
+            sign: None,
+        }
+    }
+}
+
+// The steps of a walk match on the word: what one does stands in its case.
 impl<V: Number> Walk<'_, V> {
     // A factor on the level: its sign first, then the product that waits.
     fn factor(&mut self, factor: V)
@@ -68,13 +91,13 @@ impl<V: Number> Walk<'_, V> {
         match token {
             Token::Factor(value) => self.factor(value),
             Token::Operator(op) => {
-                if !is_fresh(self.level) || !is_additive(op) {
+                if !self.level.is_fresh() || !op.is_additive() {
                     return Err(Flaw::NoForm);
                 }
                 self.level.sign = Some(op);
             }
             Token::Open => {
-                // Kept: the proof does not see which row is written through `get_mut`.
+                // The proof does not see which row is written through `get_mut`.
                 if self.depth >= self.levels.len() {
                     return Err(Flaw::NoForm);
                 }
@@ -94,7 +117,7 @@ impl<V: Number> Walk<'_, V> {
     {
         match token {
             Token::Operator(op) => {
-                self.level = operated(self.level, product, op);
+                self.level = self.level.operated(product, op);
                 self.after = None;
             }
             Token::Close => {
@@ -112,26 +135,20 @@ impl<V: Number> Walk<'_, V> {
     pub(crate) fn take(&mut self, token: Token<V>) -> Result<(), Flaw>
         ensures { Stepped (walker_of V.Number.operations) self.old self.new token result }
     {
+        // A match: the second step needs the product that its case holds.
         match self.after {
             None => self.wanting(token),
             Some(product) => self.following(product, token),
         }
     }
-}
 
-// The level after an operator that follows a product.
-fn operated<V: Number>(level: Level<V>, product: V, op: Op) -> Level<V>
-    ensures { result ≡ operated_level (walker_of V.Number.operations) level product op }
-{
-    let (sums, products) = if is_additive(op) {
-        let value = joined(level.sums, product);
-        (Some(Left { value, op }), None)
-    } else {
-        (level.sums, Some(Left { value: product, op }))
-    };
-    Level {
-        sums,
-        products,
-        sign: None,
+    // The value of the walk, if it may end here: a match, which a guard on the product needs.
+    pub(crate) fn ended(&self) -> Result<V, Flaw>
+        ensures { Ended V.Number.operations self.now result }
+    {
+        match self.after {
+            Some(product) if self.depth == 0 => Ok(joined(self.level.sums, product)),
+            _ => Err(Flaw::NoForm),
+        }
     }
 }

@@ -33,9 +33,9 @@ impl Machine for EndMachine {
         self.seen
     }
 
-    fn take(&mut self, line: Line) -> Deed {
+    fn take(&mut self, line: &Line) -> Deed {
         self.seen = is_end(line.text());
-        Deed::Hands(line)
+        Deed::Hands(*line)
     }
 
     fn work(&mut self) -> Deed {
@@ -48,7 +48,7 @@ impl Machine for EndMachine {
     }
 }
 
-// An END layer, fresh, over a source.
+// An END layer, fresh, over a source. (Why its clauses say `keeping` stands at `over`.)
 pub fn end_layer<S: Source>(below: S) -> Layered<S, EndMachine>
     ensures meaning { laid_meaning end_rule S.meaning (keeping end_state S.kept result) ≡ end_remains (S.meaning (S.kept below)) }
     ensures untold { Untold (S.meaning (S.kept below)) → Untold (laid_meaning end_rule S.meaning (keeping end_state S.kept result)) }

@@ -15,6 +15,8 @@ pub struct Layered<S, M> {
     own: Option<Ending>,
 }
 
+// Three functions require the bound of a grant, as a type for it would be one more thing to carry: it is private here, and
+// `admit` has asked it.
 impl<S: Source, M: Machine> Layered<S, M> {
     // A step of work, if the grant has one.
     fn work(&mut self, grant: u32) -> Answer<Option<Told<Line>>>
@@ -43,12 +45,10 @@ impl<S: Source, M: Machine> Layered<S, M> {
         requires idle { M.rule.busy (M.state self.old.machine) ≡ false }
         ensures { Moves M.rule M.state S.meaning S.tick S.kept self.old self.new grant result }
     {
-        let Ok(Answer { spent, told }) = ask(&mut self.below, grant) else {
-            return unreachable();
-        };
+        let Answer { spent, told } = ask(&mut self.below, grant).unwrap();
         let told = match told {
             Told::Line(line) => {
-                let deed = self.machine.take(line);
+                let deed = self.machine.take(&line);
                 self.own = deed.ending();
                 deed.told()
             }
@@ -76,7 +76,7 @@ impl<S: Source, M: Machine> Layered<S, M> {
         }
     }
 
-    // A whole request: advances until something is told.
+    // A whole request: advances until something is told. (Why its clause says `keeping` stands at `over`.)
     fn turn(&mut self, grant: u32) -> Answer<Told<Line>>
         requires { grant ≤ 1000000 }
         ensures { Turned M.rule S.meaning S.tick (keeping M.state S.kept self.old) (keeping M.state S.kept self.new) grant result }
@@ -92,7 +92,8 @@ impl<S: Source, M: Machine> Layered<S, M> {
     }
 }
 
-// A fresh layer over a source.
+// A fresh layer over a source. Clauses see a layer by `keeping`; an `impl Model` cannot say it, because the value would be made of the
+// members of both bounds.
 pub fn over<S: Source, M: Machine>(below: S, machine: M) -> Layered<S, M>
     ensures kept { keeping M.state S.kept result ≡ laid None (M.state machine) (S.kept below) }
     ensures meaning { laid_meaning M.rule S.meaning (keeping M.state S.kept result) ≡ layered M.rule (M.state machine) (S.meaning (S.kept below)) }
@@ -116,6 +117,7 @@ impl<S: Source, M: Machine> Source for Layered<S, M> {
 
     ghost paced = { laid_paced M.rule M.falls S.meaning S.tick S.paced };
 
+    // The same two lines as the text source's (beside them stands why).
     fn next(&mut self, buffer: &mut [u8], grant: u32) -> Reply {
         admit(buffer, grant)?;
         deliver(&self.turn(grant), buffer)

@@ -1,13 +1,14 @@
 // A machine: what one kind of layer does with a line that it takes, and by one step of work.
 use sources::{Ending, Line, Told};
 
-#[derive(Drop)]
+#[derive(Clone, Copy)]
 pub enum Deed {
     Onward,
     Hands(Line),
     Stops(Ending),
 }
 
+// Matches: each answer stands in the case of the deed.
 impl Deed {
     ghost use Rattle.std.specs.Prelude.{◌≡◌};
     ghost use Rattle.layers.specs.Engine.{ending_of, heard_of};

@@ -22,8 +22,8 @@ pub trait Machine {
         ensures { result ≡ rule.busy (state self.now) };
 
     // A line from below, at no cost of its own.
-    fn take(&mut self, line: Line) -> Deed
-        ensures { rule.takes (state self.old) (text_of line) ≡ did result (state self.new) };
+    fn take(&mut self, line: &Line) -> Deed
+        ensures { rule.takes (state self.old) (text_of line.now) ≡ did result (state self.new) };
 
     // One step of work.
     fn work(&mut self) -> Deed

@@ -1,5 +1,8 @@
 -- The lines of a library text, one after the other.
-use Rattle.std.proofs.Common.{◌≡◌, ℕ, suc, ◌-◌, ◌<◌, length, get_or, eqb, Bool, true, false, cond, ◌&&◌, List, [], ◌∷◌, Some, None, Ok, Err, Option, sym, refl, ap, ◌∙◌, subst, arith}
+use Rattle.std.proofs.Common.{◌≡◌, ℕ, suc, ◌-◌, length, eqb, Bool, true, false, cond, ◌&&◌, List, [], ◌∷◌, Some, None, Ok, Err, Option, MatchOption, sym, refl, ap, ◌∙◌, subst, arith}
+use Rattle.std.specs.Borrow.{Bor}
+use Rattle.std.specs.List.{slice_get}
+use Rattle.std.specs.Option.{option_copied}
 use Rattle.sources.specs.Faults.{counted}
 use Rattle.lines.specs.Texts.{lines_of, first_line as first_line_of, past_line}
 use Rattle.lines.proofs.Splitting.{first_line}
@@ -26,14 +29,17 @@ bad_text (b ∷ bs) =
     let P : List (List ℕ) → Type 0 = λ ls. bad_then 0 e ls ≡ bad_from 0 e ls in
     subst P (sym (first_line (b ∷ bs) (omega arith))) (sym (bad_is 0 e (first_line_of (b ∷ bs)) (lines_of (past_line (b ∷ bs)))))
 
--- whether a text is ended, by its last byte
-pub ended_last : (bs : List ℕ) (d : ℕ) → 0 < length bs → eqb (get_or bs (length bs - 1) d) 10 ≡ ended bs
-ended_last [] d h = absurd (omega arith)
-ended_last (b ∷ []) d h = refl
-ended_last (b ∷ (c ∷ bs)) d h =
+-- whether a text is ended, by its last byte, if there is one
+pub ended_by : (bs : List ℕ) (last : Option (Bor ℕ)) (r : Bool) → option_copied last ≡ slice_get bs (length bs - 1)
+    → MatchOption last (r ≡ true) (λ b. r ≡ eqb b.now 10) → r ≡ ended bs
+ended_by [] None r is m = m
+ended_by [] (Some x) r is m = cc
+ended_by (b ∷ []) None r is m = cc
+ended_by (b ∷ []) (Some x) r is m = let e : x.now ≡ b = cc in m ∙ ap (λ y. eqb y 10) e
+ended_by (b ∷ (c ∷ bs)) last r is m =
     let first : length (b ∷ (c ∷ bs)) - 1 ≡ suc (length bs) = omega arith in
     let second : length bs ≡ length (c ∷ bs) - 1 = omega arith in
-    ap (λ i. eqb (get_or (b ∷ (c ∷ bs)) i d) 10) first ∙ ap (λ i. eqb (get_or (c ∷ bs) i d) 10) second ∙ ended_last (c ∷ bs) d (omega arith)
+    ended_by (c ∷ bs) last r (is ∙ ap (slice_get (b ∷ (c ∷ bs))) first ∙ ap (slice_get (c ∷ bs)) second) m
 
 -- nothing is left: the end is asked
 pub bad_end : (left : List (List ℕ)) (n : ℕ) (e e' : Bool) (all : Option ℕ) → left ≡ [] → e ≡ e' → bad_then n e left ≡ all → all ≡ cond e' None (Some n)

@@ -1,5 +1,6 @@
 -- Definitions, and the library that a text is.
 use Rattle.std.specs.Prelude.{◌≡◌, ℕ, ◌≤◌, Bool, true, false, cond, not, ◌&&◌, List, [], ◌∷◌, ◌++◌, length, Some, None, Option, nat_le, slice_index_or}
+use Rattle.std.specs.List.{list_all}
 use Rattle.lines.specs.Fields.{operation_of}
 use Rattle.lines.specs.Names.{padded}
 use Rattle.lines.specs.Texts.{lines_of}
@@ -11,11 +12,6 @@ use Rattle.libraries.specs.Tables.{among}
 -- a definition is its statements, from the prototype to the first MEND
 abbrev pub Definition : Type 0
 Definition = List (List ℕ)
-
--- each passes the test
-abbrev pub every : {A : Type 0} → (A → Bool) → List A → Bool
-every p [] = true
-every p (x ∷ xs) = p x && every p xs
 
 abbrev pub is_nil : {A : Type 0} → List A → Bool
 is_nil [] = true
@@ -29,7 +25,7 @@ mended (t ∷ ts) = cond (ends (body_kind t)) (is_nil ts) (not (stops (body_kind
 -- a lawful definition has a lawful prototype and at most 255 statements, each of at most 71 characters
 abbrev pub lawful_definition : Definition → Bool
 lawful_definition [] = false
-lawful_definition (p ∷ body) = lawful_prototype p && (mended body && (nat_le (length body) 254 && every line_fits (p ∷ body)))
+lawful_definition (p ∷ body) = lawful_prototype p && (mended body && (nat_le (length body) 254 && list_all line_fits (p ∷ body)))
 
 -- the macro name of a definition
 abbrev pub name_of : Definition → List ℕ
@@ -43,7 +39,7 @@ new_names seen (d ∷ ds) = not (among (name_of d) seen) && new_names (seen ++ n
 -- the definitions of a library: at most 255, each lawful
 pub record Lawful (ds : List Definition) : Type 0 where
   pub few : length ds ≤ 255
-  pub each : every lawful_definition ds ≡ true
+  pub each : list_all lawful_definition ds ≡ true
 
 -- a definition in a text, with the MACRO line before it
 pub record Block : Type 0 where
@@ -74,7 +70,7 @@ written bs = unlines (lines_in bs)
 
 -- the blocks of a lawful library text: each is lawful, they are at most 255, and no macro name stands twice
 pub record LawfulBlocks (bs : List Block) : Type 0 where
-  pub each : every lawful_block bs ≡ true
+  pub each : list_all lawful_block bs ≡ true
   pub few : length bs ≤ 255
   pub new : new_names [] (statements_of bs) ≡ true
 

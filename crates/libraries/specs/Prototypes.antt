@@ -43,6 +43,19 @@ abbrev pub all_fit : Bool → List (List ℕ) → List (List ℕ) → Bool
 all_fit late seen [] = true
 all_fit late seen (t ∷ ts) = fits late seen t && all_fit (late || keyed t) (seen ++ padded (symbol_of t) ∷ []) ts
 
+-- the parameters seen so far: whether a keyword one is among them, and their names
+pub record Parameters : Type 0 where
+  pub late : Bool
+  pub names : List (List ℕ)
+
+-- the two as one
+abbrev pub parameters : Bool → List (List ℕ) → Parameters
+parameters late names = record { late = late; names = names }
+
+-- one parameter more
+abbrev pub and_one : Parameters → List ℕ → Parameters
+and_one s t = parameters (s.late || keyed t) (s.names ++ padded (symbol_of t) ∷ [])
+
 -- the name parameter, if there is one
 abbrev pub name_fits : List ℕ → Bool
 name_fits [] = true

@@ -1,6 +1,8 @@
 -- The check against the library that a text is: it finds no fault exactly in the lawful library texts.
 use Rattle.std.specs.Prelude.{◌≡◌, ℕ, suc, ◌+◌, ◌<◌, ◌≤◌, Bool, true, false, cond, not, ◌&&◌, List, [], ◌∷◌, ◌++◌, length, Some, None, Ok, Err, Option, Result, ◌==◌, nat_le, nat_lt, refl}
+use Rattle.std.specs.List.{list_all}
 use Rattle.std.proofs.Common.{sym, ap, ap₂, subst, ◌∙◌, arith, leb-true, le-leb, ltb-true, lt-ltb, eqb-true}
+use Rattle.std.proofs.lemmas.List.Folds.{list_all-append}
 use Rattle.std.specs.Cmp.{first_so, second_so}
 use Rattle.std.specs.Cmp.Derive.{both_true}
 use Rattle.std.proofs.lemmas.Bool.{not-true}
@@ -20,7 +22,7 @@ use Rattle.libraries.specs.declared.flaws.LibraryFault.{LibraryFault}
 use Rattle.libraries.specs.declared.flaws.Phase.{Phase}
 use Rattle.libraries.specs.declared.flaws.Phase.TheVariants.{Between, Opened, Inside}
 use Rattle.libraries.specs.Checks.{bad_from, body_kind, check_of, closing, ended, ends, finish, flaw, is_opening, line_fits, noted, or_read, past_last, read_body, read_from, read_in, read_on, read_opening, read_prototype, Reading, reading, stops}
-use Rattle.libraries.specs.Definitions.{before, Block, closes, Definition, every, grouped, is_nil, Lawful, lawful_block, LawfulBlocks, lawful_definition, LibraryText, lines_in, mended, name_of, new_names, or_none, statements_of, text_definitions, unlines, written}
+use Rattle.libraries.specs.Definitions.{before, Block, closes, Definition, grouped, is_nil, Lawful, lawful_block, LawfulBlocks, lawful_definition, LibraryText, lines_in, mended, name_of, new_names, or_none, statements_of, text_definitions, unlines, written}
 use Rattle.libraries.specs.Prototypes.{all_fit, is_macro_name, is_model, lawful_prototype, name_fits, name_seen}
 use Rattle.libraries.specs.Tables.{among}
 use Rattle.libraries.specs.Words.{is_word}
@@ -33,7 +35,7 @@ nil_is (x ∷ xs) e = cc
 pub record Outside (names ls : List (List ℕ)) : Type 0 where
   pub blocks : List Block
   pub lines : ls ≡ lines_in blocks
-  pub each : every lawful_block blocks ≡ true
+  pub each : list_all lawful_block blocks ≡ true
   pub new : new_names names (statements_of blocks) ≡ true
   pub few : length names + length blocks ≤ 255
 
@@ -53,7 +55,7 @@ pub record Within (names : List (List ℕ)) (k : ℕ) (past : Option ℕ) (ls : 
   pub outside : Outside names rest
   pub cut : ls ≡ body ++ rest
   pub mend : mended body ≡ true
-  pub fit : every line_fits body ≡ true
+  pub fit : list_all line_fits body ≡ true
   pub short : k + length body ≤ 255
   pub known : past ≡ None
 
@@ -180,15 +182,15 @@ unread (Opened m) n r e = cc
 unread (Inside k past) n r e = cc
 
 -- lines in which no fault is found
-sound : (ls : List (List ℕ)) (n : ℕ) (r : Reading) → every line_fits ls ≡ true → read_from n ls r ≡ None → Holds r.phase r ls
+sound : (ls : List (List ℕ)) (n : ℕ) (r : Reading) → list_all line_fits ls ≡ true → read_from n ls r ≡ None → Holds r.phase r ls
 sound [] n r f e = unread r.phase n r e
 sound (t ∷ ts) n r f e = go (read_in r.phase r (counted n) t) refl (sound ts (counted n)) e
   where
     go : (x : Result Reading LibraryFault) → read_in r.phase r (counted n) t ≡ x
-        → ((s : Reading) → every line_fits ts ≡ true → read_from (counted n) ts s ≡ None → Holds s.phase s ts)
+        → ((s : Reading) → list_all line_fits ts ≡ true → read_from (counted n) ts s ≡ None → Holds s.phase s ts)
         → read_on x (read_from (counted n) ts) ≡ None → Holds r.phase r (t ∷ ts)
     go (Err g) x ih h = cc
-    go (Ok s) x ih h = step r s (counted n) t ts (first_so (line_fits t) (every line_fits ts) f) (ih s (second_so (line_fits t) (every line_fits ts) f) h) r.phase x
+    go (Ok s) x ih h = step r s (counted n) t ts (first_so (line_fits t) (list_all line_fits ts) f) (ih s (second_so (line_fits t) (list_all line_fits ts) f) h) r.phase x
 
 mend_goes_on : (k : Kind) → ends k ≡ true → stops k ≡ false
 mend_goes_on Declaration e = refl
@@ -268,7 +270,7 @@ definition_reads names rest (p ∷ body) o n l a few more =
     ∙ body_reads (names ++ name_of (p ∷ body) ∷ []) rest more body 1 (counted n) m (omega (arith, short))
 
 -- lawful blocks are read without a fault
-blocks_read : (bs : List Block) (names : List (List ℕ)) → every lawful_block bs ≡ true → new_names names (statements_of bs) ≡ true → length names + length bs ≤ 255
+blocks_read : (bs : List Block) (names : List (List ℕ)) → list_all lawful_block bs ≡ true → new_names names (statements_of bs) ≡ true → length names + length bs ≤ 255
     → (n : ℕ) → read_from n (lines_in bs) (reading Between names) ≡ None
 blocks_read [] names l w few n = refl
 blocks_read (b ∷ bs) names l w few n =
@@ -318,14 +320,14 @@ definition_grouped rest (p ∷ body) l =
     ap (λ z. closes z p (grouped (body ++ rest))) (prototype_goes_on p (first_so (lawful_prototype p) _ l))
     ∙ ap (before p) (body_grouped rest body (first_so (mended body) _ (second_so (lawful_prototype p) _ l)))
 
-blocks_grouped : (bs : List Block) → every lawful_block bs ≡ true → grouped (lines_in bs) false ≡ statements_of bs
+blocks_grouped : (bs : List Block) → list_all lawful_block bs ≡ true → grouped (lines_in bs) false ≡ statements_of bs
 blocks_grouped [] l = refl
 blocks_grouped (b ∷ bs) l =
     definition_grouped (lines_in bs) b.statements (block_lawful b (first_so (lawful_block b) _ l))
     ∙ ap (λ ds. b.statements ∷ ds) (blocks_grouped bs (second_so (lawful_block b) _ l))
 
 -- lines that fit, in a text that is ended
-lines_fit : (e : Bool) (ls : List (List ℕ)) (n : ℕ) → bad_from n e ls ≡ None → every line_fits ls ≡ true
+lines_fit : (e : Bool) (ls : List (List ℕ)) (n : ℕ) → bad_from n e ls ≡ None → list_all line_fits ls ≡ true
 lines_fit e [] n h = refl
 lines_fit e (t ∷ []) n h = go (line_fits t) e refl h
   where
@@ -335,7 +337,7 @@ lines_fit e (t ∷ []) n h = go (line_fits t) e refl h
 lines_fit e (t ∷ (u ∷ us)) n h = go (line_fits t) refl h (lines_fit e (u ∷ us) (counted n))
   where
     go : (z : Bool) → line_fits t ≡ z → cond z (bad_from (counted n) e (u ∷ us)) (Some (counted n)) ≡ None
-        → (bad_from (counted n) e (u ∷ us) ≡ None → every line_fits (u ∷ us) ≡ true) → every line_fits (t ∷ (u ∷ us)) ≡ true
+        → (bad_from (counted n) e (u ∷ us) ≡ None → list_all line_fits (u ∷ us) ≡ true) → list_all line_fits (t ∷ (u ∷ us)) ≡ true
     go true f x ih = both_true f (ih x)
     go false f x ih = cc
 
@@ -352,7 +354,7 @@ last_ended e t (u ∷ us) n h = go (line_fits t) h (last_ended e u us (counted n
     go true x ih = ih x
     go false x ih = cc
 
-no_bad_line : (ls : List (List ℕ)) (n : ℕ) → every line_fits ls ≡ true → bad_from n true ls ≡ None
+no_bad_line : (ls : List (List ℕ)) (n : ℕ) → list_all line_fits ls ≡ true → bad_from n true ls ≡ None
 no_bad_line [] n f = refl
 no_bad_line (t ∷ []) n f = ap (λ z. cond z None (Some (counted n))) f
 no_bad_line (t ∷ (u ∷ us)) n f =
@@ -400,7 +402,7 @@ first_of (b ∷ t) bs h =
     ap (λ z. cond z ([] ∷ lines_of (t ++ 10 ∷ bs)) (onto b (lines_of (t ++ 10 ∷ bs)))) (not_end b (first_so (character b) _ h))
     ∙ ap (onto b) (first_of t bs (second_so (character b) _ h))
 
-lines_back : (ls : List (List ℕ)) → every line_fits ls ≡ true → lines_of (unlines ls) ≡ ls
+lines_back : (ls : List (List ℕ)) → list_all line_fits ls ≡ true → lines_of (unlines ls) ≡ ls
 lines_back [] h = refl
 lines_back (t ∷ ts) h =
     first_of t (unlines ts) (second_so (nat_le (length t) 71) _ (first_so (line_fits t) _ h))
@@ -420,20 +422,20 @@ unlines_ended (t ∷ (u ∷ us)) = ended_after t (unlines (u ∷ us)) ∙ passed
     passed [] bs = refl
     passed (b ∷ v) bs = refl
 
-every_append : {A : Type 0} (p : A → Bool) (xs ys : List A) → every p xs ≡ true → every p ys ≡ true → every p (xs ++ ys) ≡ true
-every_append p [] ys f g = g
-every_append p (x ∷ xs) ys f g = both_true (first_so (p x) _ f) (every_append p xs ys (second_so (p x) _ f) g)
+-- all of two lists pass where all of each do
+pub all_append : {A : Type 0} (p : A → Bool) (xs ys : List A) → list_all p xs ≡ true → list_all p ys ≡ true → list_all p (xs ++ ys) ≡ true
+all_append p xs ys f g = list_all-append p xs ys ∙ both_true f g
 
-statements_fit : (d : Definition) → lawful_definition d ≡ true → every line_fits d ≡ true
+pub statements_fit : (d : Definition) → lawful_definition d ≡ true → list_all line_fits d ≡ true
 statements_fit [] l = refl
 statements_fit (p ∷ body) l = second_so (nat_le (length body) 254) _ (second_so (mended body) _ (second_so (lawful_prototype p) _ l))
 
-blocks_fit : (bs : List Block) → every lawful_block bs ≡ true → every line_fits (lines_in bs) ≡ true
+blocks_fit : (bs : List Block) → list_all lawful_block bs ≡ true → list_all line_fits (lines_in bs) ≡ true
 blocks_fit [] l = refl
 blocks_fit (b ∷ bs) l =
     let lb = first_so (lawful_block b) _ l in
     both_true (block_fits b lb)
-    (every_append line_fits b.statements (lines_in bs) (statements_fit b.statements (block_lawful b lb)) (blocks_fit bs (second_so (lawful_block b) _ l)))
+    (all_append line_fits b.statements (lines_in bs) (statements_fit b.statements (block_lawful b lb)) (blocks_fit bs (second_so (lawful_block b) _ l)))
 
 -- the check finds nothing in a lawful library text
 pub written_passes : (bs : List Block) → LawfulBlocks bs → check_of (written bs) ≡ None
@@ -484,7 +486,7 @@ module _ (text : List ℕ) where
       let l : LawfulBlocks o.blocks = record { each = o.each; few = omega (arith, few); new = o.new } in
       (o.blocks, whole h ∙ ap unlines o.lines, l)
 
-statements_lawful : (bs : List Block) → every lawful_block bs ≡ true → every lawful_definition (statements_of bs) ≡ true
+statements_lawful : (bs : List Block) → list_all lawful_block bs ≡ true → list_all lawful_definition (statements_of bs) ≡ true
 statements_lawful [] l = refl
 statements_lawful (b ∷ bs) l =
     both_true (block_lawful b (first_so (lawful_block b) _ l)) (statements_lawful bs (second_so (lawful_block b) _ l))

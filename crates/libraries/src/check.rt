@@ -1,5 +1,6 @@
 // The check of a library text.
 ghost use Rattle.std.specs.Prelude.{◌≡◌, [], Some, None, MatchResult};
+ghost use Rattle.lines.specs.Results.{Passes};
 ghost use Rattle.lines.specs.Texts.{lines_of};
 ghost use Rattle.libraries.specs.Checks.{bad_from, body_kind, check_of, closing, ended, ends, finish, flaw, is_opening, library_number, line_fits, read_body, read_from, read_in, read_opening, read_prototype, reading};
 ghost use Rattle.libraries.specs.Definitions.{LibraryText};
@@ -77,6 +78,7 @@ fn fault(cause: LibraryCause, line: u32) -> LibraryFault
     LibraryFault { cause, line }
 }
 
+// Each step takes the number and the line apart: one comes from the count, the other from the text.
 impl Reader {
     // A line where a definition could begin.
     fn read_opening(&mut self, number: u32, line: &[u8]) -> Result<(), LibraryFault>
@@ -105,10 +107,7 @@ impl Reader {
         if self.names.as_slice().contains(&name) {
             return Err(fault(LibraryCause::SameName, number));
         }
-        let past_last = match self.names.try_push(name) {
-            Ok(()) => None,
-            Err(_) => Some(macro_line),
-        };
+        let past_last = self.names.try_push(name).is_err().then_some(macro_line);
         self.phase = Phase::Inside {
             statements: 1,
             past_last,
@@ -126,6 +125,7 @@ impl Reader {
     ) -> Result<(), LibraryFault>
         ensures { ReadsOn (read_body self.old statements past_last number line.now) result self.new }
     {
+        // A match on the kind: what a line does stands in its case.
         match body_kind(line) {
             Kind::Opening | Kind::Closing => Err(fault(LibraryCause::Nested, number)),
             Kind::Mend => self.close(past_last),
@@ -155,6 +155,7 @@ impl Reader {
     fn read(&mut self, number: u32, line: &[u8]) -> Result<(), LibraryFault>
         ensures { ReadsOn (read_in self.old.phase self.old number line.now) result self.new }
     {
+        // A match: each step takes what its case holds, which a closure for it would have to be given.
         match self.phase {
             Phase::Between => self.read_opening(number, line),
             Phase::Opened { macro_line } => self.read_prototype(macro_line, number, line),
@@ -165,9 +166,9 @@ impl Reader {
         }
     }
 
-    // The text ends after this line.
+    // The text ends after this line: a match, as what is wrong depends on the phase alone.
     fn finish(&self, last: u32) -> Result<(), LibraryFault>
-        ensures { MatchResult result (λ _. finish self.now.phase last ≡ None) (λ f. finish self.now.phase last ≡ Some f) }
+        ensures { Passes (finish self.now.phase last) result }
     {
         match self.phase {
             Phase::Between => Ok(()),
@@ -181,16 +182,14 @@ impl Reader {
 fn is_ended(text: &[u8]) -> bool
     ensures { result ≡ ended text.now }
 {
-    match text.last() {
-        Some(last) => *last == LINE_END,
-        None => true,
-    }
+    text.last().is_none_or(|last| *last == LINE_END)
 }
 
 // Does each line fit, and is the last one ended?
 fn check_lines(text: &[u8]) -> Result<(), LibraryFault>
     ensures { MatchResult result (λ _. bad_from 0 (ended text.now) (lines_of text.now) ≡ None) (λ f. (f.cause ≡ LibraryCause.BadLine) × (bad_from 0 (ended text.now) (lines_of text.now) ≡ Some f.line)) }
 {
+    // Counted beside the lines, because the count stops at the highest line number. So below.
     let mut taken = 0;
     for line in Lines::of(text) {
         taken = count_line(taken);
@@ -206,7 +205,7 @@ fn check_lines(text: &[u8]) -> Result<(), LibraryFault>
 
 // Are the definitions of a text whose lines fit lawful?
 fn check_definitions(text: &[u8]) -> Result<(), LibraryFault>
-    ensures { MatchResult result (λ _. read_from 0 (lines_of text.now) (reading Phase.Between []) ≡ None) (λ f. read_from 0 (lines_of text.now) (reading Phase.Between []) ≡ Some f) }
+    ensures { Passes (read_from 0 (lines_of text.now) (reading Phase.Between [])) result }
 {
     let mut reader = Reader::default();
     let mut taken = 0;
@@ -219,7 +218,7 @@ fn check_definitions(text: &[u8]) -> Result<(), LibraryFault>
 
 // Is the text a lawful library? If not, what is wrong first, and in which line.
 pub fn check_text(text: &[u8]) -> Result<(), LibraryFault>
-    ensures first { MatchResult result (λ _. check_of text.now ≡ None) (λ f. check_of text.now ≡ Some f) }
+    ensures first { Passes (check_of text.now) result }
     ensures lawful { MatchResult result (λ _. LibraryText text.now) (λ _. (LibraryText text.now → ⊥)) }
 {
     check_lines(text)?;

@@ -1,22 +1,21 @@
 // The parameters of a prototype, one after the other.
-ghost use Rattle.std.specs.Prelude.{◌≡◌, true, false, ◌||◌, [], ◌∷◌, ◌++◌, MatchOption};
-ghost use Rattle.libraries.specs.Prototypes.{all_fit, fits, keyed, name_fits, name_seen, symbol_of};
+ghost use Rattle.std.specs.Prelude.{◌≡◌, true, false, MatchOption};
+ghost use Rattle.libraries.specs.Prototypes.{all_fit, and_one, fits, name_fits, name_seen, parameters};
 ghost use Rattle.lines.specs.Division.{parts_of};
-ghost use Rattle.lines.specs.Names.{padded};
 
 use crate::prototypes::{EQUALS, is_default, is_parameter};
 use crate::seen::Seen;
 use arrayvec::ArrayVec;
-use lines::{after_byte, divide, first_at, front, padded_name};
+use lines::{Parts, after_byte, first_at, front, padded_name};
 
 impl Seen {
     // Takes one parameter, if it fits those before it. A bool and no Result, because nobody asks why it does not.
     fn take(&mut self, part: &[u8]) -> bool
-        ensures value { result ≡ fits self.old.late self.old.names.items part.now }
-        ensures names { result ≡ true → self.new.names.items ≡ self.old.names.items ++ padded (symbol_of part.now) ∷ [] }
-        ensures late { result ≡ true → self.new.late ≡ (self.old.late || keyed part.now) }
+        ensures value { result ≡ fits self.old.late self.old.names part.now }
+        ensures seen { result ≡ true → self.new ≡ and_one self.old part.now }
     {
         let at = first_at(part, EQUALS);
+        // Whether there is a default stands beside it: the question of a late one is asked where there is none, too.
         let has_default = at < part.len();
         let symbol = front(part, at);
         let name = padded_name(symbol);
@@ -38,27 +37,20 @@ impl Seen {
 
 // Do all parameters of an operand fit, after those seen?
 pub(crate) fn parameters_fit(operand: &[u8], before: Seen) -> bool
-    ensures { result ≡ all_fit before.late before.names.items (parts_of operand.now) }
+    ensures { result ≡ all_fit before.late before.names (parts_of operand.now) }
 {
     let mut seen = before;
-    let mut rest = if operand.is_empty() {
-        None
-    } else {
-        Some(operand)
-    };
-    while let Some(parts) = rest {
-        let first = divide(parts);
-        if !seen.take(first.part) {
+    for part in Parts::of(operand) {
+        if !seen.take(part) {
             return false;
         }
-        rest = first.rest;
     }
     true
 }
 
 // What is seen before the operand: the name parameter, if there is one. None where it is not lawful.
 pub(crate) fn seen_in_name(name: &[u8]) -> Option<Seen>
-    ensures { MatchOption result (name_fits name.now ≡ false) (λ s. (name_fits name.now ≡ true) × (s.late ≡ false) × (s.names.items ≡ name_seen name.now)) }
+    ensures { MatchOption result (name_fits name.now ≡ false) (λ s. (name_fits name.now ≡ true) × (s ≡ parameters false (name_seen name.now))) }
 {
     let mut names = ArrayVec::new();
     if !name.is_empty() {

@@ -4,17 +4,16 @@ ghost use Rattle.libraries.specs.Prototypes.{is_default, is_macro_name, is_param
 
 use crate::parameters::{parameters_fit, seen_in_name};
 use crate::words::{is_system, is_variable, is_word};
-use lines::{Kind, fields_of, is_closed, kind_of};
+use expressions::text::LONGEST_TEXT;
+use lines::{Kind, NAME_BYTES, fields_of, is_closed, kind_of};
 
 // The most parameters of a macro, the name parameter too.
 pub const PARAMETERS: usize = 12;
 
 // The most characters of a default or of a value.
-pub const VALUE_BYTES: usize = 48;
+pub const VALUE_BYTES: usize = LONGEST_TEXT;
 
-const MACRO_NAME_BYTES: usize = 8;
-
-pub(crate) const EQUALS: u8 = 61;
+pub(crate) const EQUALS: u8 = b'=';
 
 // A variable symbol that does not begin %SYS?
 pub(crate) fn is_parameter(bytes: &[u8]) -> bool
@@ -34,7 +33,7 @@ pub(crate) fn is_default(bytes: &[u8]) -> bool
 fn is_macro_name(bytes: &[u8]) -> bool
     ensures { result ≡ is_macro_name bytes.now }
 {
-    is_word(bytes) && bytes.len() <= MACRO_NAME_BYTES && matches!(kind_of(bytes), Kind::Model)
+    is_word(bytes) && bytes.len() <= NAME_BYTES && matches!(kind_of(bytes), Kind::Model)
 }
 
 // Is the line a lawful prototype?

@@ -5,10 +5,10 @@ ghost use Rattle.expressions.specs.Classes.{letter_or_digit};
 ghost use Rattle.libraries.specs.Words.{is_system, is_variable, is_word};
 
 use expressions::classes::{is_letter, is_letter_or_digit};
+use lines::{NAME_BYTES, PERCENT};
 
-const PERCENT: u8 = 37;
-
-const SYMBOL_LETTERS: usize = 7;
+// The most letters and digits after the % of a symbol, a name with it.
+const SYMBOL_LETTERS: usize = NAME_BYTES - 1;
 
 const SYSTEM: &[u8] = b"%SYS";
 

@@ -4,7 +4,8 @@ use Rattle.std.proofs.lemmas.Bool.{eqb-true, and_parts, lt-ltb, le-ltb, ltb-true
 use Rattle.std.proofs.lemmas.List.{take_rest}
 use Rattle.std.proofs.lemmas.Bool.Decides.{nat_tests}
 use Rattle.lines.specs.declared.nest.Nest.{Nest}
-use Rattle.lines.specs.Division.{before, divided_from, divided, parts_after, with_commas, Clear, Divided}
+use Rattle.lines.specs.Division.{divided_from, divided, parts_after, with_commas, Clear, Divided}
+use Rattle.lines.specs.Texts.{onto}
 use Rattle.lines.specs.Nesting.{past, outside, end_by, start, first_comma}
 use Rattle.lines.proofs.Joins.{end_clear}
 
@@ -21,15 +22,15 @@ first_part s [] = refl
 first_part s (b ∷ bs) = go (eqb b 44 && outside s) (first_part (past s b) bs)
   where
     go : (z : Bool) → divided_from (past s b) bs ≡ take (end_by 44 (past s b) bs) bs ∷ parts_after (ltb (end_by 44 (past s b) bs) (length bs)) (end_by 44 (past s b) bs) bs
-        → cond z ([] ∷ divided_from start bs) (before b (divided_from (past s b) bs))
+        → cond z ([] ∷ divided_from start bs) (onto b (divided_from (past s b) bs))
         ≡ take (cond z 0 (suc (end_by 44 (past s b) bs))) (b ∷ bs) ∷ parts_after (ltb (cond z 0 (suc (end_by 44 (past s b) bs))) (suc (length bs))) (cond z 0 (suc (end_by 44 (past s b) bs))) (b ∷ bs)
     go true ih = let t : ltb 0 (suc (length bs)) ≡ true = lt-ltb 0 (suc (length bs)) (omega arith) in rw t refl
     go false ih =
         let n = end_by 44 (past s b) bs in
-        ap (before b) ih
+        ap (onto b) ih
         ∙ ap (λ ts. (b ∷ take n bs) ∷ ts) (sym (after_suc (ltb n (length bs)) n b bs) ∙ ap (λ z. parts_after z (suc n) (b ∷ bs)) (sym (ltb_suc n (length bs))))
 
-join_before : (b : ℕ) (ts : List (List ℕ)) → 0 < length ts → with_commas (before b ts) ≡ b ∷ with_commas ts
+join_before : (b : ℕ) (ts : List (List ℕ)) → 0 < length ts → with_commas (onto b ts) ≡ b ∷ with_commas ts
 join_before b [] h = absurd (omega arith)
 join_before b (t ∷ []) h = refl
 join_before b (t ∷ (u ∷ us)) h = refl
@@ -46,7 +47,7 @@ join_whole s [] = refl
 join_whole s (b ∷ bs) = go (eqb b 44 && outside s) refl (join_whole start bs) (join_whole (past s b) bs)
   where
     go : (z : Bool) → (eqb b 44 && outside s) ≡ z → with_commas (divided_from start bs) ≡ bs → with_commas (divided_from (past s b) bs) ≡ bs
-        → with_commas (cond z ([] ∷ divided_from start bs) (before b (divided_from (past s b) bs))) ≡ b ∷ bs
+        → with_commas (cond z ([] ∷ divided_from start bs) (onto b (divided_from (past s b) bs))) ≡ b ∷ bs
     go true e i j = join_comma [] (divided_from start bs) (some_part start bs) ∙ ap₂ (λ x xs. x ∷ xs) (sym (eqb-true b 44 (and_parts (eqb b 44) (outside s) e).0)) i
     go false e i j = join_before b (divided_from (past s b) bs) (some_part (past s b) bs) ∙ ap (λ xs. b ∷ xs) j
 

@@ -2,17 +2,13 @@
 use Rattle.std.specs.Prelude.{◌≡◌, ℕ, ◌+◌, Bool, true, false, cond, ◌&&◌, List, [], ◌∷◌, ◌++◌, length, drop, Some, None, Option, ◌==◌}
 use Rattle.std.specs.Borrow.{Bor}
 use Rattle.lines.specs.declared.nest.Nest.{Nest}
+use Rattle.lines.specs.Texts.{onto}
 use Rattle.lines.specs.Nesting.{past, outside, start, first_comma}
-
--- a byte before the first part
-abbrev pub before : ℕ → List (List ℕ) → List (List ℕ)
-before b [] = (b ∷ []) ∷ []
-before b (t ∷ ts) = (b ∷ t) ∷ ts
 
 -- the parts of bytes that begin so deep
 abbrev pub divided_from : Nest → List ℕ → List (List ℕ)
 divided_from s [] = [] ∷ []
-divided_from s (b ∷ bs) = cond (b == 44 && outside s) ([] ∷ divided_from start bs) (before b (divided_from (past s b) bs))
+divided_from s (b ∷ bs) = cond (b == 44 && outside s) ([] ∷ divided_from start bs) (onto b (divided_from (past s b) bs))
 
 abbrev pub divided : List ℕ → List (List ℕ)
 divided bs = divided_from start bs
@@ -26,6 +22,10 @@ parts_of (b ∷ bs) = divided (b ∷ bs)
 abbrev pub rest_of : Option (Bor (List ℕ)) → List (List ℕ)
 rest_of None = []
 rest_of (Some r) = divided r.now
+
+-- the parts that are left
+abbrev pub left : List (List ℕ) → List (List ℕ)
+left ts = ts
 
 -- the parts after the byte at n, where there is such a byte
 abbrev pub parts_after : Bool → ℕ → List ℕ → List (List ℕ)

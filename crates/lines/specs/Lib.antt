@@ -7,3 +7,5 @@ pub mod Division
 pub mod Names
 pub mod Statements
 pub mod Texts
+pub mod Shorts
+pub mod Results

@@ -2,7 +2,7 @@
 use Rattle.std.specs.Prelude.{ℕ, ◌+◌, cond, List, [], ◌∷◌, take, drop, ◌==◌}
 use Rattle.lines.specs.Fields.{first_at}
 
--- a byte before the first line of a text
+-- a byte before the first of some pieces: lines of a text, parts of an operand
 abbrev pub onto : ℕ → List (List ℕ) → List (List ℕ)
 onto b [] = (b ∷ []) ∷ []
 onto b (l ∷ ls) = (b ∷ l) ∷ ls

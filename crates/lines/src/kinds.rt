@@ -1,4 +1,4 @@
-// The kinds of statements, by their operation.
+// The kinds of statements, by their operation, which alone tells them. A `Statement` has these cases too, and holds the fields.
 
 #[derive(Clone, Copy, Debug, PartialEq, Eq)]
 pub enum Kind {

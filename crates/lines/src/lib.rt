@@ -8,6 +8,8 @@ pub mod names;
 pub mod nest;
 pub mod nesting;
 pub mod operations;
+pub mod parts;
+pub mod short;
 pub mod statement;
 pub mod statements;
 pub mod texts;
@@ -23,19 +25,25 @@ pub use kinds::Kind;
 pub use names::{NAME_BYTES, name_of, padded_name};
 pub use nesting::{COMMA, is_closed, outside_end};
 pub use operations::kind_of;
+pub use parts::Parts;
+pub use short::Short;
 pub use statement::Statement;
 pub use statements::{is_remark, statement_of};
 pub use texts::{Lines, split_line};
 
-pub const BLANK: u8 = 32;
+pub const BLANK: u8 = b' ';
 
-pub const STAR: u8 = 42;
+pub const STAR: u8 = b'*';
 
-pub const LINE_END: u8 = 10;
+pub const COLON: u8 = b':';
 
-const FIRST_CHARACTER: u8 = 32;
+pub const PERCENT: u8 = b'%';
 
-const LAST_CHARACTER: u8 = 126;
+pub const LINE_END: u8 = b'\n';
+
+const FIRST_CHARACTER: u8 = b' ';
+
+const LAST_CHARACTER: u8 = b'~';
 
 // Is the byte a character of the panel's alphabet?
 pub fn is_character(byte: u8) -> bool
@@ -51,7 +59,8 @@ pub fn all_characters(bytes: &[u8]) -> bool
     bytes.iter().all(|byte| is_character(*byte))
 }
 
-// How many bytes stand before the first that is this one.
+// How many bytes stand before the first that is this one. Each such search is a chain of its own: a function over any test could
+// say of its answer only what the closure gives.
 #[tactic(auto, using(crate::proofs::Scans::first_found))]
 pub fn first_at(bytes: &[u8], wanted: u8) -> usize
     ensures value { result ≡ first_at wanted bytes.now }

@@ -4,7 +4,7 @@ ghost use Rattle.lines.specs.Names.{named, padded};
 
 use crate::{BLANK, write_padded};
 
-// The bytes of a macro name or a symbol name.
+// The bytes of a macro name or a symbol name. A name is an array of them by value, which is compared and copied whole.
 pub const NAME_BYTES: usize = 8;
 
 // The first eight bytes, filled with blanks.
@@ -20,8 +20,5 @@ pub fn padded_name(bytes: &[u8]) -> [u8; NAME_BYTES]
 pub fn name_of(bytes: &[u8]) -> Option<[u8; NAME_BYTES]>
     ensures { result ≡ named bytes.now }
 {
-    if bytes.len() > NAME_BYTES {
-        return None;
-    }
-    Some(padded_name(bytes))
+    (bytes.len() <= NAME_BYTES).then_some(padded_name(bytes))
 }

@@ -4,13 +4,13 @@ ghost use Rattle.lines.specs.Nesting.{closed, end_by, outside, past, start};
 
 use crate::nest::Nest;
 
-const APOSTROPHE: u8 = 39;
+const APOSTROPHE: u8 = b'\'';
 
-const OPEN: u8 = 40;
+const OPEN: u8 = b'(';
 
-const CLOSE: u8 = 41;
+const CLOSE: u8 = b')';
 
-pub const COMMA: u8 = 44;
+pub const COMMA: u8 = b',';
 
 impl Nest {
     fn is_outside(self) -> bool
@@ -50,6 +50,7 @@ pub fn outside_end(bytes: &[u8], stop: u8) -> usize
     ensures bound { result ≤ length bytes.now }
 {
     let mut nest = Nest::default();
+    // A loop with its index, because how deep each byte stands follows from all bytes before it; position sees one byte alone.
     for (i, byte) in bytes.iter().enumerate() {
         let stops = (*byte == stop) & nest.is_outside();
         if stops {
@@ -65,6 +66,7 @@ pub fn is_closed(bytes: &[u8]) -> bool
     ensures { result ≡ closed bytes.now }
 {
     let mut nest = Nest::default();
+    // A loop and no fold, because one byte more asks for a bound on the depth, which the loop's invariant tells.
     for byte in bytes {
         nest = nest.past(*byte);
     }

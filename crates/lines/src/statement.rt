@@ -1,4 +1,5 @@
-// The statements of a definition, by kind, with their fields.
+// The statements of a definition, by kind, with their fields. The cases are those of Kind: a Kind with optional fields beside it would
+// let a comment have fields.
 use crate::field::Fields;
 
 #[derive(Clone, Copy)]

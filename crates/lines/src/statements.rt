@@ -2,14 +2,12 @@
 ghost use Rattle.std.specs.Prelude.{◌≡◌};
 ghost use Rattle.lines.specs.Statements.{StatementOf, remark};
 
-use crate::STAR;
 use crate::field::Fields;
 use crate::fields::fields_of;
 use crate::kinds::Kind;
 use crate::operations::kind_of;
 use crate::statement::Statement;
-
-const COLON: u8 = 58;
+use crate::{COLON, STAR};
 
 // Does it begin with :*?
 pub fn is_remark(line: &[u8]) -> bool
@@ -28,6 +26,7 @@ pub fn statement_of(line: &[u8]) -> Statement<'_>
     if is_remark(line) {
         return Statement::Remark;
     }
+    // A match: each case of one enum goes to the case of the other that holds the fields.
     match kind_of(fields.operation.bytes) {
         Kind::Declaration => Statement::Declaration(fields),
         Kind::Assignment => Statement::Assignment(fields),

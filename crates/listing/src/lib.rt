@@ -30,16 +30,14 @@ pub fn listing(heap: Global, site: &[u8]) -> Result<Vec<u8>, AllocError>
 
 // The lines of a source and its ending.
 fn list<S: Source>(heap: Global, source: &mut S) -> Result<Vec<u8>, AllocError>
-    requires { total (S.Source.meaning (S.Source.kept source.old)) < 2 ^ 64 }
-    ensures { IfOk result (λ v. v.items ≡ listed (S.Source.meaning (S.Source.kept source.old))) }
+    requires { total (S.meaning (S.kept source.old)) < 2 ^ 64 }
+    ensures { IfOk result (λ v. v.items ≡ listed (S.meaning (S.kept source.old))) }
 {
     let mut out = Vec::new(heap);
     let mut lines: u64 = 0;
     let mut steps: u64 = 0;
     loop {
-        let Ok(Answer { spent, told }) = ask(source, MOST_STEPS) else {
-            unreachable!()
-        };
+        let Answer { spent, told } = ask(source, MOST_STEPS).unwrap();
         steps += u64::from(spent);
         match told {
             Told::Line(line) => {

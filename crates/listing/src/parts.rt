@@ -5,7 +5,7 @@ ghost use Rattle.listing.specs.Listing.{parts_of, parts_text};
 use sources::Fault;
 use std::fmt;
 
-// A fault's number, its depth, and where it is.
+// A fault's number, its depth, and where it is. Beside Fault, because what is wrong with a file as a whole is told so too.
 #[derive(Clone, Copy, Debug, PartialEq, Eq)]
 pub struct FaultParts {
     pub number: u16,

@@ -3,7 +3,7 @@
 
 use anyhow::bail;
 use listing::SITE_BYTES;
-use polling::{Shape, poll_pile, reply_line, requests_for};
+use polling::{Shape, poll_pile, replies, requests_for};
 use std::env;
 use std::io::{Read, Write};
 
@@ -33,13 +33,11 @@ fn main(rt: HostRuntime) -> anyhow::Result<()> {
     ) else {
         return explain(&rt);
     };
-    // Kept: `as`, since a usize has no `From` to u64.
+    // `as`, since a usize has no `From` to u64.
     let mut site = Vec::new(rt.alloc());
     rt.stdin().take(SITE_BYTES as u64).read_to_end(&mut site)?;
     poll_pile(shape, site.as_slice(), requests.as_mut_slice());
-    for request in requests.iter() {
-        rt.stdout()
-            .write_all(reply_line(rt.alloc(), request)?.as_slice())?;
-    }
+    rt.stdout()
+        .write_all(replies(rt.alloc(), requests.as_slice())?.as_slice())?;
     Ok(())
 }

@@ -1,4 +1,4 @@
--- A reply as POLL prints it.
+-- Replies as POLL prints them.
 use Rattle.std.specs.Prelude.{ℕ, List, [], ◌∷◌, ◌++◌, take, Some, None, Ok, Err, codes, decimal, Option, Result}
 use Rattle.sources.specs.declared.answers.Answer.{Answer}
 use Rattle.sources.specs.declared.answers.Refusal.{Refusal}
@@ -6,6 +6,8 @@ use Rattle.sources.specs.declared.answers.Told.{Told}
 use Rattle.sources.specs.declared.answers.Told.TheVariants.{Line, Held, Ended}
 use Rattle.listing.specs.declared.parts.FaultParts.{FaultParts}
 use Rattle.listing.specs.Listing.{parts_of, parts_shown}
+use Rattle.piles.specs.declared.request.Request.{Request}
+use Rattle.piles.specs.Requests.{bytes_of}
 use Rattle.sources.specs.Faults.{Ending, refusal_number}
 
 -- "line SPENT LENGTH text"
@@ -35,3 +37,8 @@ abbrev pub reply_shown : Option (Result (Answer (Told ℕ)) Refusal) → List �
 reply_shown None buffer = codes "pending\n"
 reply_shown (Some (Err r)) buffer = codes "refused " ++ (decimal (refusal_number r) ++ (10 ∷ []))
 reply_shown (Some (Ok a)) buffer = answer_shown a.told a.spent buffer
+
+-- the replies of a list of requests, one after the other
+abbrev pub replies_shown : List Request → List ℕ
+replies_shown [] = []
+replies_shown (q ∷ qs) = reply_shown q.reply (bytes_of q) ++ replies_shown qs

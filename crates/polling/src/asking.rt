@@ -3,10 +3,8 @@ ghost use Rattle.std.specs.Prelude.{◌≡◌, IfOk, None};
 ghost use Rattle.polling.specs.Shapes.{Unmade};
 
 use piles::Request;
+use sources::line::WIDTH;
 use std::alloc::Global;
-
-// The length of a buffer where a request names none, as it would be written.
-const BUFFER_BYTES: &str = "80";
 
 // What a buffer holds before its request.
 const UNUSED: u8 = b'.';
@@ -20,13 +18,16 @@ pub fn requests_for(heap: Global, list: &str) -> anyhow::Result<Vec<Request>>
         .try_collect(heap)
 }
 
-// A request for `grant` or `grant/bufferlength`.
+// A request for `grant` or `grant/bufferlength`; the buffer of a line where it names none.
 fn request_for(heap: Global, words: &str) -> anyhow::Result<Request>
     ensures { IfOk result (λ q. q.reply ≡ None) }
 {
-    let (grant, size) = words.split_once('/').unwrap_or((words, BUFFER_BYTES));
+    let (grant, size) = match words.split_once('/') {
+        Some((grant, size)) => (grant, size.parse::<usize>()?),
+        None => (words, WIDTH),
+    };
     Ok(Request {
-        buffer: vec![in heap; UNUSED; size.parse::<usize>()?]?,
+        buffer: vec![in heap; UNUSED; size]?,
         grant: grant.parse::<u32>()?,
         reply: None,
     })

@@ -1,4 +1,4 @@
-// Piles of a few fixed shapes over a text, any list of requests to one, and how a reply is printed.
+// Piles of a few fixed shapes over a text, any list of requests to one, and how replies are printed.
 #![tactic(auto)]
 
 pub mod asking;
@@ -9,4 +9,4 @@ pub mod show;
 pub use asking::requests_for;
 pub use shape::{Shape, UnknownShape};
 pub use shapes::poll_pile;
-pub use show::reply_line;
+pub use show::{replies, reply_line};

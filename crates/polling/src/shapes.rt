@@ -11,6 +11,7 @@ pub fn poll_pile(shape: Shape, site: &[u8], requests: &mut [Request])
     ensures { Answered (shape_remains shape site.now) 0 requests.old requests.new }
 {
     let source = TextSource::new(site);
+    // A match with a call in each arm, as each shape is a pile of another type.
     match shape {
         Shape::Bare => ask_pile(source, requests),
         Shape::OneEnd => ask_pile(end_layer(source), requests),
@@ -22,7 +23,7 @@ pub fn poll_pile(shape: Shape, site: &[u8], requests: &mut [Request])
 
 // Makes the requests to a pile.
 fn ask_pile<S: Source + Drop>(mut pile: S, requests: &mut [Request])
-    ensures { Answered (S.Source.meaning (S.Source.kept pile)) 0 requests.old requests.new }
+    ensures { Answered (S.meaning (S.kept pile)) 0 requests.old requests.new }
 {
     make_requests(&mut pile, requests);
 }

@@ -1,13 +1,24 @@
 // A reply as it is printed.
 ghost use Rattle.std.specs.Prelude.{◌≡◌, IfOk};
 ghost use Rattle.piles.specs.Requests.{bytes_of};
-ghost use Rattle.polling.specs.Show.{line_shown, reply_shown};
+ghost use Rattle.polling.specs.Show.{line_shown, replies_shown, reply_shown};
 
 use lines::front;
 use listing::FaultParts;
 use piles::Request;
 use sources::{Answer, Told};
 use std::alloc::{AllocError, Global};
+
+// The printed lines of all the requests, one after the other.
+pub fn replies(heap: Global, requests: &[Request]) -> Result<Vec<u8>, AllocError>
+    ensures { IfOk result (λ v. v.items ≡ replies_shown requests.now) }
+{
+    let mut out = Vec::new(heap);
+    for request in requests {
+        out.extend_from_slice(reply_line(heap, request)?.as_slice())?;
+    }
+    Ok(out)
+}
 
 // One printed line for a request: a line, held over, an ending, a refusal, or that it is not made yet.
 pub fn reply_line(heap: Global, request: &Request) -> Result<Vec<u8>, AllocError>

@@ -10,10 +10,10 @@ use Rattle.sources.specs.declared.answers.Told.{Told}
 use Rattle.sources.specs.declared.answers.Told.TheVariants as told
 use Rattle.sources.specs.declared.line.Line.{Line}
 use Rattle.sources.specs.Faults.{Ending}
-use Rattle.sources.specs.Hearings.{text_of, HearsOf, Hears, tells_of, tells, delivers_of, delivers}
+use Rattle.sources.specs.Hearings.{Asked, text_of, HearsOf, Hears, tells_of, tells, delivers_of, delivers}
 use Rattle.sources.specs.Lines.{filled, written}
-use Rattle.sources.specs.Meaning.{Priced, Remains, price, first_price, spend}
-use Rattle.sources.specs.Replies.{Turn, turning, turn_of, refusal_of, replying, reply_of, Replies, StandsIn, Lawful, spent_by}
+use Rattle.sources.specs.Meaning.{iterate, Priced, Remains, price, first_price, spend}
+use Rattle.sources.specs.Replies.{Mapped, Turn, turning, turn_of, refusal_of, replying, reply_of, Replies, StandsIn, Lawful, spent_by}
 use Rattle.sources.proofs.Filling.{length_filled, take_filled}
 
 -- what an answer says of what remained, over the parts of what remains
@@ -159,3 +159,26 @@ delivered m after old new g h r free hears paid said put =
       lawful = subst P (sym ok) (subst Q (sym buf) (stands_from h.told old));
       spent = ap spent_by ok;
     }
+
+-- what a layer hears of an answer, its line taken out of the buffer
+pub heard_from : (m after : Remains) (old new : List ℕ) (g : ℕ) (a : Answer (Told ℕ)) (R : ℕ → Line → Type 0) (u : Told Line) → length old ≡ 80
+    → Replies m after old new g (Ok a) → StandsIn a.told new → ((k : ℕ) (l : Line) → R k l → text_of l ≡ take k new) → Mapped R a.told u
+    → (g ≤ 1000000) × HearsOf m g a.spent u
+heard_from m after old new g a R u own said stands reads maps = go a.told refl stands maps
+  where
+    go : (t : Told ℕ) → a.told ≡ t → StandsIn t new → Mapped R t u → (g ≤ 1000000) × HearsOf m g a.spent u
+    go (told.Line k) is s (l, e, r) =
+        let j = heard_at m after old new g a (told.Line k) (omega (arith, own)) said is in
+        let h = j.1 in
+        let text : h.0 ≡ text_of l = sym (reads k l r ∙ received_line h.0 old new k own h.4 h.7 s.fits) in
+        rw e (j.0, (h.1, h.2, h.3 ∙ ap (λ t. record { text = t; beyond = h.1 } ∷ h.2) text, h.5, h.6))
+    go told.Held is s e = rw e (heard_at m after old new g a told.Held (omega (arith, own)) said is)
+    go (told.Ended f) is s e = rw e (heard_at m after old new g a (told.Ended f) (omega (arith, own)) said is)
+
+-- a request that is no refusal
+pub heard_ok : (m : Remains) (g : ℕ) (r : Result (Answer (Told Line)) Refusal) (h : Answer (Told Line)) → r ≡ Ok h → Asked m g r → Hears m g h
+heard_ok m g r h e a = let P : Result (Answer (Told Line)) Refusal → Type 0 = λ x. Asked m g x in (subst P e a).1
+
+pub reached_ok : {K : Type 0} (tick : K → K) (k l : K) (r : Result (Answer (Told Line)) Refusal) (h : Answer (Told Line)) → r ≡ Ok h
+    → l ≡ iterate tick (spent_by r) k → l ≡ iterate tick h.spent k
+reached_ok tick k l r h e p = let P : Result (Answer (Told Line)) Refusal → Type 0 = λ x. l ≡ iterate tick (spent_by x) k in subst P e p

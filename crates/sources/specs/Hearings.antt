@@ -11,7 +11,7 @@ use Rattle.sources.specs.Meaning.{Priced, Remains, next_price}
 
 -- the text of a line
 abbrev pub text_of : Line → List ℕ
-text_of l = l.bytes.items
+text_of l = l.bytes
 
 -- the first line or the ending, whose price is at most the grant, or neither, where the price is above it
 abbrev pub HearsOf : Remains → ℕ → ℕ → Told Line → Type 0

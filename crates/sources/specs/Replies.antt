@@ -71,3 +71,15 @@ StandsIn (Ended e) buffer = Unit {0}
 abbrev pub Lawful : Result (Answer (Told ℕ)) Refusal → List ℕ → Type 0
 Lawful (Ok a) buffer = StandsIn a.told buffer
 Lawful (Err r) buffer = Unit {0}
+
+-- the property holds of the line, where a line is told
+abbrev pub AtLine : {L : Type 0} → (L → Type 0) → Told L → Type 0
+AtLine P (Line l) = P l
+AtLine P Held = Unit {0}
+AtLine P (Ended e) = Unit {0}
+
+-- a line is told as another that the relation ties to it; held over and an ending stay
+abbrev pub Mapped : {L M : Type 0} → (L → M → Type 0) → Told L → Told M → Type 0
+Mapped {L} {M} R (Line l) t = (m : M) × (t ≡ Line m) × R l m
+Mapped R Held t = t ≡ Held
+Mapped R (Ended e) t = t ≡ Ended e

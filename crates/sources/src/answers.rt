@@ -31,6 +31,22 @@ pub enum Told<L> {
     Ended(Ending),
 }
 
+impl<L> Told<L> {
+    ghost use Rattle.sources.specs.Replies.{AtLine, Mapped};
+
+    // The line as the function makes it; held over and an ending stay as they are.
+    pub(crate) fn map<M, F: FnOnce(L) -> M>(self, f: F) -> Told<M>
+        requires { AtLine (F.pre f) self }
+        ensures { Mapped (F.post f) self result }
+    {
+        match self {
+            Told::Line(line) => Told::Line(f(line)),
+            Told::Held => Told::Held,
+            Told::Ended(ending) => Told::Ended(ending),
+        }
+    }
+}
+
 // The steps spent, and what was told by them.
 #[derive(Clone, Copy, Drop, Debug, PartialEq, Eq)]
 pub struct Answer<T> {

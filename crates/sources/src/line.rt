@@ -2,14 +2,14 @@
 ghost use Rattle.std.specs.Prelude.{◌≡◌, ◌≤◌, true, length};
 ghost use Rattle.lines.specs.Characters.{characters};
 
-use arrayvec::ArrayVec;
+use lines::Short;
 
 // The longest line, and the bytes of a buffer that a line takes.
 pub const WIDTH: usize = 80;
 
-#[derive(Drop)]
+#[derive(Clone, Copy)]
 pub struct Line {
-    pub(crate) bytes: ArrayVec<u8, WIDTH>,
-    ghost fits: { length bytes.items ≤ 80 },
-    ghost clean: { characters bytes.items ≡ true },
+    pub(crate) bytes: Short<WIDTH>,
+    ghost fits: { length bytes ≤ 80 },
+    ghost clean: { characters bytes ≡ true },
 }

@@ -1,5 +1,6 @@
 // A request as a layer makes it, and an answer as a caller gets it.
-ghost use Rattle.std.specs.Prelude.{◌≡◌, length, take, if◌then◌else◌, Some, None, Ok, Err, MatchResult, nat_lt};
+ghost use Rattle.std.specs.Prelude.{◌≡◌, length, take, if◌then◌else◌, Ok, Err, nat_lt};
+ghost use Rattle.lines.specs.Results.{Passes};
 ghost use Rattle.sources.specs.Hearings.{Asked, delivers, tells, text_of};
 ghost use Rattle.sources.specs.Meaning.{iterate};
 ghost use Rattle.sources.specs.Replies.{LineIn, refusal_of, spent_by};
@@ -7,12 +8,12 @@ ghost use Rattle.sources.specs.Replies.{LineIn, refusal_of, spent_by};
 use crate::answers::{Answer, Refusal, Reply, Told};
 use crate::line::{Line, WIDTH};
 use crate::source::{MOST_STEPS, Source};
-use arrayvec::ArrayVec;
-use lines::BLANK;
+use lines::{BLANK, Short};
 
-// Ok where a call with this buffer and this grant is a good one, and else its refusal.
+// Ok where a call with this buffer and this grant is a good one, and else its refusal. `deliver` and `put` ask the buffer once more: they
+// are calls of their own.
 pub fn admit(buffer: &[u8], grant: u32) -> Result<(), Refusal>
-    ensures { MatchResult result (λ _. refusal_of (length buffer.now) grant ≡ None) (λ e. refusal_of (length buffer.now) grant ≡ Some e) }
+    ensures { Passes (refusal_of (length buffer.now) grant) result }
 {
     if buffer.len() < WIDTH {
         return Err(Refusal::ShortBuffer);
@@ -23,7 +24,8 @@ pub fn admit(buffer: &[u8], grant: u32) -> Result<(), Refusal>
     Ok(())
 }
 
-// Tells a caller what was heard: a line goes into the buffer. A buffer under 80 bytes is refused.
+// Tells a caller what was heard: a line goes into the buffer. A buffer under 80 bytes is refused: this is a call of its own, which owes
+// that whether `admit` was asked or not.
 pub fn deliver(heard: &Answer<Told<Line>>, buffer: &mut [u8]) -> Reply
     ensures answer { result ≡ (if nat_lt (length buffer.old) 80 then Err Refusal.ShortBuffer else Ok (tells heard.now)) }
     ensures buffer { buffer.new ≡ (if nat_lt (length buffer.old) 80 then buffer.old else delivers heard.now buffer.old) }
@@ -31,32 +33,25 @@ pub fn deliver(heard: &Answer<Told<Line>>, buffer: &mut [u8]) -> Reply
     if buffer.len() < WIDTH {
         return Err(Refusal::ShortBuffer);
     }
-    let told = match &heard.told {
-        Told::Line(line) => Told::Line(line.put(buffer)?),
-        Told::Held => Told::Held,
-        Told::Ended(ending) => Told::Ended(*ending),
-    };
+    if let Told::Line(line) = &heard.told {
+        line.put(buffer)?;
+    }
     Ok(Answer {
         spent: heard.spent,
-        told,
+        told: heard.told.map(|line| line.text().len()),
     })
 }
 
 // One request to the source below, with a buffer of the layer's own.
 pub fn ask<S: Source>(source: &mut S, grant: u32) -> Result<Answer<Told<Line>>, Refusal>
-    ensures heard { Asked (S.Source.meaning (S.Source.kept source.old)) grant result }
-    ensures reached { S.Source.kept source.new ≡ iterate S.Source.tick (spent_by result) (S.Source.kept source.old) }
+    ensures heard { Asked (S.meaning (S.kept source.old)) grant result }
+    ensures reached { S.kept source.new ≡ iterate S.tick (spent_by result) (S.kept source.old) }
 {
     let mut buffer = [BLANK; WIDTH];
     let answer = source.next(&mut buffer, grant)?;
-    let told = match answer.told {
-        Told::Line(len) => Told::Line(received(&buffer, len)),
-        Told::Held => Told::Held,
-        Told::Ended(ending) => Told::Ended(ending),
-    };
     Ok(Answer {
         spent: answer.spent,
-        told,
+        told: answer.told.map(|len| received(&buffer, len)),
     })
 }
 
@@ -65,8 +60,7 @@ fn received(buffer: &[u8; WIDTH], len: usize) -> Line
     requires { LineIn len buffer.now }
     ensures { text_of result ≡ take len buffer.now }
 {
-    let Ok(bytes) = ArrayVec::try_from(&buffer[..len]) else {
-        return unreachable();
-    };
-    Line { bytes }
+    Line {
+        bytes: Short::new(&buffer[..len]).unwrap(),
+    }
 }

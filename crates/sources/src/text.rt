@@ -6,7 +6,7 @@ use lines::Lines;
 pub struct TextSource<'a> {
     // the lines that are left
     pub(crate) lines: Lines<'a>,
-    // the lines taken so far
+    // the lines taken so far, counted beside the iterator because the count stops at the highest line number
     pub(crate) taken: u32,
     // the ending, once it is told
     pub(crate) told: Option<Ending>,

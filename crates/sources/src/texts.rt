@@ -57,8 +57,9 @@ impl<'a> TextSource<'a> {
             self.told = Some(Ok(()));
             return Told::Ended(Ok(()));
         };
+        // Counted beside the iterator, because the count stops at the highest line number.
         let taken = count_line(self.taken);
-        match Line::read(text) {
+        match Line::try_from(text) {
             Ok(line) => {
                 self.taken = taken;
                 Told::Line(line)
@@ -80,6 +81,7 @@ fn found_in(cause: Cause, line: u32) -> Fault
         cause,
         depth: 0,
         line,
+        // Numbers and no Option: a fault is told by five numbers, 0 where no call is open.
         definition: DefinitionNumber(0),
         statement: StatementNumber(0),
     }
@@ -96,6 +98,8 @@ impl Source for TextSource<'_> {
 
     ghost paced = { text_paced };
 
+    // The same two lines as a layer's. A `next` over a `turn` in the trait would hold a call that requires an admitted
+    // grant, and every source would owe two calls.
     fn next(&mut self, buffer: &mut [u8], grant: u32) -> Reply {
         admit(buffer, grant)?;
         deliver(&self.turn(grant), buffer)

@@ -7,21 +7,24 @@ ghost use Rattle.sources.specs.Texts.{flaw};
 use crate::answers::Refusal;
 use crate::faults::Cause;
 use crate::line::{Line, WIDTH};
-use arrayvec::ArrayVec;
-use lines::{all_characters, write_padded};
+use lines::{Short, all_characters, write_padded};
 
-impl Line {
-    // A line of these bytes, or what is wrong with them.
-    pub fn read(text: &[u8]) -> Result<Line, Cause>
-        ensures { MatchResult result (λ l. (flaw text.now ≡ None) × (text_of l ≡ text.now)) (λ e. flaw text.now ≡ Some e) }
-    {
-        let bytes = ArrayVec::try_from(text).map_err(|_| Cause::LineTooLong)?;
+// A line of these bytes, or what is wrong with them.
+impl TryFrom<&[u8]> for Line {
+    type Error = Cause;
+
+    ghost try_from_gives = { λ text result. MatchResult result (λ l. (flaw text.now ≡ None) × (text_of l ≡ text.now)) (λ e. flaw text.now ≡ Some e) };
+
+    fn try_from(text: &[u8]) -> Result<Line, Cause> {
+        let bytes = Short::new(text).ok_or(Cause::LineTooLong)?;
         if !all_characters(text) {
             return Err(Cause::BadCharacter);
         }
         Ok(Line { bytes })
     }
+}
 
+impl Line {
     // The characters of the line.
     pub fn text(&self) -> &[u8]
         ensures { result.now ≡ text_of self.now }
@@ -29,7 +32,8 @@ impl Line {
         self.bytes.as_slice()
     }
 
-    // Fills the first 80 bytes of a buffer with the line; a shorter buffer is refused and stays as it is.
+    // Fills the first 80 bytes of a buffer with the line; a shorter buffer is refused and stays as it is, which
+    // this call owes whoever asks it.
     pub fn put(&self, buffer: &mut [u8]) -> Result<usize, Refusal>
         ensures answer { result ≡ (if nat_lt (length buffer.old) 80 then Err Refusal.ShortBuffer else Ok (length (text_of self.now))) }
         ensures buffer { buffer.new ≡ (if nat_lt (length buffer.old) 80 then buffer.old else written (text_of self.now) buffer.old) }

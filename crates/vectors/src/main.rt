@@ -8,15 +8,15 @@
 ghost use Rattle.std.specs.Prelude.{◌<◌};
 
 use anyhow::Context;
-use libraries::check_text;
-use polling::{Shape, poll_pile, reply_line, requests_for};
+use libraries::{LibraryFault, check_text};
+use polling::{Shape, poll_pile, replies, requests_for};
 use std::alloc::{AllocError, Global};
 use std::io::{Read, Write};
 
 const MOST_BYTES: u64 = 1_000_000;
 
 // The value of a hexadecimal digit; other bytes count as 0.
-// Kept: `char::to_digit` takes small letters too, which count as 0 here.
+// `char::to_digit` takes small letters too, which count as 0 here.
 fn hex(byte: u8) -> u8
     ensures { result < 16 }
 {
@@ -70,11 +70,7 @@ fn finish(rt: &HostRuntime, case: &mut Case) -> anyhow::Result<()> {
 fn run_check(rt: &HostRuntime, text: &[u8]) -> anyhow::Result<()> {
     match check_text(text) {
         Ok(()) => rt.println("lawful")?,
-        Err(fault) => {
-            let number = u16::from(fault.cause);
-            let line = fault.line;
-            println!(rt; "fault {number} {line}")?;
-        }
+        Err(LibraryFault { cause, line }) => println!(rt; "fault {} {line}", u16::from(cause))?,
     }
     Ok(())
 }
@@ -93,10 +89,8 @@ fn run_case(rt: &HostRuntime, asked: &str, text: &[u8]) -> anyhow::Result<()> {
         .context("a case names no shape")?;
     let mut requests = requests_for(rt.alloc(), list)?;
     poll_pile(shape, text, requests.as_mut_slice());
-    for request in requests.iter() {
-        rt.stdout()
-            .write_all(reply_line(rt.alloc(), request)?.as_slice())?;
-    }
+    rt.stdout()
+        .write_all(replies(rt.alloc(), requests.as_slice())?.as_slice())?;
     Ok(())
 }
 

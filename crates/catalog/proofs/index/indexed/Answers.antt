@@ -1,7 +1,7 @@
 use Rattle.std.proofs.Common.{refl, ap, ◌∙◌, get_or, arith}
 use Rattle.lines.specs.Fields.{operation_of}
 use Rattle.lines.specs.Names.{padded}
-use Rattle.catalog.proofs.Indexes.{indexed_done, indexed_more, indexed_room}
+use Rattle.catalog.proofs.Indexes.{indexed_done, indexed_more, indexed_room, indexed_shorter}
 use Rattle.catalog.proofs.index.indexed.Goals as goal
 
 pub push-requires : goal.push-requires
@@ -13,15 +13,14 @@ push-requires c =
 pub loop-body-smaller : goal.loop-body-smaller
 loop-body-smaller c =
     let e = c.in-Some.ensures in
-    (indexed_more c.args.text.now c.loop-body.rest.now _ c.in-Some.body.now e.0 e.1 e.2 c.loop-body.entries.items c.loop-body.invariant _ _ refl c.statements_in-statements.ensures.value
-    (c.initial_of.ensures ∙ ap (λ p. get_or (padded (operation_of p)) 0 0) c.first_line.ensures) c.statements_in-statements.ensures.rest).1
+    indexed_shorter c.args.text.now c.loop-body.rest.now _ c.in-Some.body.now e.0 e.1 e.2 c.statements_in-statements.result.0 _ c.statements_in-statements.ensures.rest
 
 pub loop-body-preserved : goal.loop-body-preserved
 loop-body-preserved c =
     let e = c.in-Some.ensures in
     let more = indexed_more c.args.text.now c.loop-body.rest.now _ c.in-Some.body.now e.0 e.1 e.2 c.loop-body.entries.items c.loop-body.invariant _ _ refl c.statements_in-statements.ensures.value
     (c.initial_of.ensures ∙ ap (λ p. get_or (padded (operation_of p)) 0 0) c.first_line.ensures) c.statements_in-statements.ensures.rest in
-    rw c.push.ensures.items more.0
+    rw c.push.ensures.items more
 
 pub invariant_of-result : goal.invariant_of-result
 invariant_of-result c =

@@ -1,6 +1,5 @@
 use Rattle.std.proofs.Common.{sym, ap, ◌∙◌, rules}
 use Rattle.std.specs.Iterator.{YieldsFirstRef}
-use Rattle.std.proofs.lemmas.List.{take_rest}
 use Rattle.std.proofs.lemmas.Iterator.Consumers.{YieldsList-from_first, nth_from_yields_List}
 use Rattle.lines.specs.Texts.{lines_of}
 use Rattle.catalog.proofs.Numbering.{shown, statement_missing, statement_past, statement_there}
@@ -19,4 +18,4 @@ returns c =
     let e = c.in_ok-entry.entry in
     let there = statement_there text c.args.definition c.args.statement e c.in_ok-entry.ensures c.from-at.result c.from-at.ensures (search rules) (search rules) in
     shown c.nth.result _ (there ∙ sym (nth_from_yields_List {steps = YieldsFirstRef lines_of} {v = λ t. t.now} c.nth.result c.nth.new.self c.from-at.result c.nth.ensures.ran
-    (YieldsList-from_first (λ t. t.now) lines_of _ (ap lines_of (c.of.ensures ∙ take_rest text e.start)))))
+    (YieldsList-from_first (λ t. t.now) lines_of _ (ap lines_of c.of.ensures))))

@@ -1,6 +1,5 @@
-use Rattle.std.proofs.Common.{◌≡◌, get_or, drop, sym, ap, ◌∙◌, arith, inl}
+use Rattle.std.proofs.Common.{◌≡◌, get_or, sym, ap, ◌∙◌, arith, inl}
 use Rattle.std.specs.Iterator.Adapters.{enumerate_count, enumerate_source, take_count, take_source}
-use Rattle.std.proofs.lemmas.List.{take_rest}
 use Rattle.lines.specs.Texts.{lines_of}
 use Rattle.libraries.specs.Definitions.{text_definitions}
 use Rattle.catalog.specs.Entries.{nowhere}
@@ -16,20 +15,20 @@ loop-at-preserved-then-entry-name c =
     let s = c.args.self.now in
     let at = c.loop-at.at in
     let row = row_of s c.as_slice-entry-items.result.now c.as_slice-entry-items.ensures.value at c.loop-at-test.true in
-    find_skip (text_definitions s.text.now) c.args.name at _ row.within (other_initial s.text.now _ _ c.args.name row.stands c.if-entry-name.true) c.loop-at.invariant
+    find_skip (text_definitions s.text.now) c.args.name at _ row.within (other_initial _ _ c.args.name row.stands c.if-entry-name.true) c.loop-at.invariant
 
 pub loop-number-init : goal.loop-number-init
 loop-number-init c =
     let s = c.args.self.now in
-    let start = (get_or c.as_slice-entry-items.result.now c.loop-at.at nowhere).start in
+    let lines = (get_or c.as_slice-entry-items.result.now c.loop-at.at nowhere).lines.now in
     let it = c.into_iter-number-iterator.result in
     let made = c.into_iter-number-iterator.ensures.into_iter_gives in
     let numbered = c.enumerate-number-items.ensures in
     let taken = c.take.ensures in
     let none : enumerate_count it ≡ 0 = ap enumerate_count made ∙ numbered.count in
     let two : take_count (enumerate_source it) ≡ 2 = ap (λ i. take_count (enumerate_source i)) made ∙ ap take_count numbered.source ∙ taken.count in
-    let all : lines_of (take_source (enumerate_source it)) ≡ lines_of (drop start s.text.now) =
-    ap (λ i. lines_of (take_source (enumerate_source i))) made ∙ ap (λ t. lines_of (take_source t)) numbered.source ∙ ap lines_of (taken.source ∙ c.of-lines.ensures ∙ take_rest s.text.now start) in
+    let all : lines_of (take_source (enumerate_source it)) ≡ lines_of lines =
+    ap (λ i. lines_of (take_source (enumerate_source i))) made ∙ ap (λ t. lines_of (take_source t)) numbered.source ∙ ap lines_of (taken.source ∙ c.of-lines.ensures) in
     record {
       can = (tt, tt, inl (omega (arith, none, two)));
       finite = tt;

@@ -14,7 +14,7 @@ invariant-loop-number l =
     record {
       can : (goal.iterator-loop-number).can_next it;
       finite : (goal.iterator-loop-number).is_finite it;
-      read : Reading (lines_of (drop (get_or l.entry-items l.at nowhere).start l.self.text.now)) (get_or (text_definitions l.self.text.now) l.at []) l.name (enumerate_count it) (take_count taken) (lines_of (take_source taken));
+      read : Reading (lines_of (get_or l.entry-items l.at nowhere).lines.now) (get_or (text_definitions l.self.text.now) l.at []) l.name (enumerate_count it) (take_count taken) (lines_of (take_source taken));
     }
 
 abbrev pub invariant-loop-at : goal.invariant-loop-at
