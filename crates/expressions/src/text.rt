@@ -1,5 +1,5 @@
 // A text by value: at most 48 bytes.
-ghost use Rattle.std.specs.Prelude.{◌≤◌, length};
+ghost use Rattle.std.specs.Prelude.{◌≤◌, length, take};
 
 use lines::Short;
 
@@ -9,5 +9,5 @@ pub const LONGEST_TEXT: usize = 48;
 #[derive(Clone, Copy)]
 pub struct Text {
     pub(crate) bytes: Short<LONGEST_TEXT>,
-    ghost fits: { length bytes ≤ 48 },
+    ghost fits: { length (take bytes.len bytes.bytes) ≤ 48 },
 }

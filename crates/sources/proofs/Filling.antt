@@ -17,3 +17,12 @@ pub written_by : (bytes t text buffer : List ℕ) → 80 ≤ length buffer → b
     → bytes ++ drop 80 buffer ≡ written text buffer
 unfolding filled
 written_by bytes t text buffer big over same = ap (λ b. b ++ drop 80 buffer) (over ∙ ap₂ padded_to (length-take-le 80 buffer big) same)
+
+-- bytes with blanks behind their first n are those filled
+pub blank_filled : (n : ℕ) (bytes : List ℕ) → bytes ≡ padded_to 80 (take n bytes) → bytes ≡ filled (take n bytes)
+unfolding filled
+blank_filled n bytes e = e
+
+pub filled_blank : (n : ℕ) (bytes : List ℕ) → bytes ≡ filled (take n bytes) → bytes ≡ padded_to 80 (take n bytes)
+unfolding filled
+filled_blank n bytes e = e

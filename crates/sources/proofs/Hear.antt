@@ -13,7 +13,7 @@ use Rattle.sources.specs.Faults.{Ending}
 use Rattle.sources.specs.Hearings.{Asked, text_of, HearsOf, Hears, tells_of, tells, delivers_of, delivers}
 use Rattle.sources.specs.Lines.{filled, written}
 use Rattle.sources.specs.Meaning.{iterate, Priced, Remains, price, first_price, spend}
-use Rattle.sources.specs.Replies.{Mapped, Turn, turning, turn_of, refusal_of, replying, reply_of, Replies, StandsIn, Lawful, spent_by}
+use Rattle.sources.specs.Replies.{AtLine, LineIn, Mapped, Turn, turning, turn_of, refusal_of, replying, reply_of, Replies, StandsIn, Lawful, spent_by}
 use Rattle.sources.proofs.Filling.{length_filled, take_filled}
 
 -- what an answer says of what remained, over the parts of what remains
@@ -123,10 +123,13 @@ pub alone : (t old : List ℕ) → length old ≡ 80 → written t old ≡ fille
 alone t old h = ap (λ r. filled t ++ r) (drop_all 80 old (omega arith)) ∙ append-nil (filled t)
 
 -- what a line in a buffer of 80 bytes is
-pub received_line : (t old new : List ℕ) (n : ℕ) → length old ≡ 80 → n ≡ length t → new ≡ written t old → n ≤ 80 → take n new ≡ t
+pub received_line : (t old new : List ℕ) (n : ℕ) → length old ≡ 80 → n ≡ length t → new ≡ written t old → n ≤ 80
+    → (take n new ≡ t) × (new ≡ filled (take n new))
 received_line t old new n h k e small =
+    let whole : new ≡ filled t = e ∙ alone t old h in
     let fits : length t ≤ 80 = omega arith in
-    ap (take n) (e ∙ alone t old h) ∙ ap (λ j. take j (filled t)) k ∙ take_filled t fits
+    let front : take n new ≡ t = ap (take n) whole ∙ ap (λ j. take j (filled t)) k ∙ take_filled t fits in
+    (front, whole ∙ ap filled (sym front))
 
 -- a call that is not refused
 pub admitted : (size g : ℕ) → refusal_of size g ≡ None → (80 ≤ size) × (g ≤ 1000000)
@@ -160,6 +163,18 @@ delivered m after old new g h r free hears paid said put =
       spent = ap spent_by ok;
     }
 
+-- a line that is told in a buffer of 80 bytes is all of it, with blanks behind
+pub received_whole : (m after : Remains) (old new : List ℕ) (g : ℕ) (a : Answer (Told ℕ)) (P : ℕ → Type 0) → length old ≡ 80
+    → Replies m after old new g (Ok a) → StandsIn a.told new → ((n : ℕ) → LineIn n new → new ≡ filled (take n new) → P n) → AtLine P a.told
+received_whole m after old new g a P own said stands owes = go a.told refl stands
+  where
+    go : (t : Told ℕ) → a.told ≡ t → StandsIn t new → AtLine P t
+    go (told.Line n) is s =
+        let h = (heard_at m after old new g a (told.Line n) (omega (arith, own)) said is).1 in
+        owes n s (received_line h.0 old new n own h.4 h.7 s.fits).1
+    go told.Held is s = tt
+    go (told.Ended e) is s = tt
+
 -- what a layer hears of an answer, its line taken out of the buffer
 pub heard_from : (m after : Remains) (old new : List ℕ) (g : ℕ) (a : Answer (Told ℕ)) (R : ℕ → Line → Type 0) (u : Told Line) → length old ≡ 80
     → Replies m after old new g (Ok a) → StandsIn a.told new → ((k : ℕ) (l : Line) → R k l → text_of l ≡ take k new) → Mapped R a.told u
@@ -170,7 +185,7 @@ heard_from m after old new g a R u own said stands reads maps = go a.told refl s
     go (told.Line k) is s (l, e, r) =
         let j = heard_at m after old new g a (told.Line k) (omega (arith, own)) said is in
         let h = j.1 in
-        let text : h.0 ≡ text_of l = sym (reads k l r ∙ received_line h.0 old new k own h.4 h.7 s.fits) in
+        let text : h.0 ≡ text_of l = sym (reads k l r ∙ (received_line h.0 old new k own h.4 h.7 s.fits).0) in
         rw e (j.0, (h.1, h.2, h.3 ∙ ap (λ t. record { text = t; beyond = h.1 } ∷ h.2) text, h.5, h.6))
     go told.Held is s e = rw e (heard_at m after old new g a told.Held (omega (arith, own)) said is)
     go (told.Ended f) is s e = rw e (heard_at m after old new g a (told.Ended f) (omega (arith, own)) said is)

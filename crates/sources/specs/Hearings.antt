@@ -1,5 +1,5 @@
 -- What a layer hears from the source below it, by what remained there and the grant.
-use Rattle.std.specs.Prelude.{◌≡◌, ℕ, suc, ◌<◌, ◌≤◌, List, [], ◌∷◌, length, Ok, Err, Result}
+use Rattle.std.specs.Prelude.{◌≡◌, ℕ, suc, ◌<◌, ◌≤◌, List, [], ◌∷◌, length, take, Ok, Err, Result}
 use Rattle.sources.specs.declared.answers.Refusal.{Refusal}
 use Rattle.sources.specs.declared.answers.Refusal.TheVariants.{LargeGrant}
 use Rattle.sources.specs.declared.line.Line.{Line}
@@ -11,7 +11,7 @@ use Rattle.sources.specs.Meaning.{Priced, Remains, next_price}
 
 -- the text of a line
 abbrev pub text_of : Line → List ℕ
-text_of l = l.bytes
+text_of l = take l.bytes.len l.bytes.bytes
 
 -- the first line or the ending, whose price is at most the grant, or neither, where the price is above it
 abbrev pub HearsOf : Remains → ℕ → ℕ → Told Line → Type 0

@@ -1,5 +1,5 @@
 // A line by value: 0 to 80 characters.
-ghost use Rattle.std.specs.Prelude.{◌≡◌, ◌≤◌, true, length};
+ghost use Rattle.std.specs.Prelude.{◌≡◌, ◌≤◌, true, length, take};
 ghost use Rattle.lines.specs.Characters.{characters};
 
 use lines::Short;
@@ -10,6 +10,6 @@ pub const WIDTH: usize = 80;
 #[derive(Clone, Copy)]
 pub struct Line {
     pub(crate) bytes: Short<WIDTH>,
-    ghost fits: { length bytes ≤ 80 },
-    ghost clean: { characters bytes ≡ true },
+    ghost fits: { length (take bytes.len bytes.bytes) ≤ 80 },
+    ghost clean: { characters (take bytes.len bytes.bytes) ≡ true },
 }

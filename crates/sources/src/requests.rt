@@ -2,6 +2,7 @@
 ghost use Rattle.std.specs.Prelude.{◌≡◌, length, take, if◌then◌else◌, Ok, Err, nat_lt};
 ghost use Rattle.lines.specs.Results.{Passes};
 ghost use Rattle.sources.specs.Hearings.{Asked, delivers, tells, text_of};
+ghost use Rattle.sources.specs.Lines.{filled};
 ghost use Rattle.sources.specs.Meaning.{iterate};
 ghost use Rattle.sources.specs.Replies.{LineIn, refusal_of, spent_by};
 
@@ -51,16 +52,17 @@ pub fn ask<S: Source>(source: &mut S, grant: u32) -> Result<Answer<Told<Line>>, 
     let answer = source.next(&mut buffer, grant)?;
     Ok(Answer {
         spent: answer.spent,
-        told: answer.told.map(|len| received(&buffer, len)),
+        told: answer.told.map(|len| received(buffer, len)),
     })
 }
 
-// The line that a source has put into a buffer.
-fn received(buffer: &[u8; WIDTH], len: usize) -> Line
-    requires { LineIn len buffer.now }
-    ensures { text_of result ≡ take len buffer.now }
+// The line that a source has put into a buffer, which it filled with blanks.
+fn received(bytes: [u8; WIDTH], len: usize) -> Line
+    requires line { LineIn len bytes }
+    requires whole { bytes ≡ filled (take len bytes) }
+    ensures { text_of result ≡ take len bytes }
 {
     Line {
-        bytes: Short::new(&buffer[..len]).unwrap(),
+        bytes: Short { bytes, len },
     }
 }

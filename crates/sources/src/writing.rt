@@ -7,7 +7,7 @@ ghost use Rattle.sources.specs.Texts.{flaw};
 use crate::answers::Refusal;
 use crate::faults::Cause;
 use crate::line::{Line, WIDTH};
-use lines::{Short, all_characters, write_padded};
+use lines::{Short, all_characters};
 
 // A line of these bytes, or what is wrong with them.
 impl TryFrom<&[u8]> for Line {
@@ -42,7 +42,7 @@ impl Line {
             return Err(Refusal::ShortBuffer);
         }
         let text = self.text();
-        write_padded(&mut buffer[..WIDTH], text);
+        buffer[..WIDTH].copy_from_slice(&self.bytes.bytes);
         Ok(text.len())
     }
 }
