@@ -13,8 +13,9 @@ use Rattle.libraries.specs.Reads.{text_lawful}
 use Rattle.libraries.proofs.Lawfully.{definition_lawful, definition_short}
 use Rattle.catalog.specs.declared.text.TextLibrary.{TextLibrary}
 use Rattle.catalog.specs.declared.entry.Entry.{Entry}
-use Rattle.catalog.specs.Entries.{Located, definition_at, initial_of, nowhere, same, stands}
-use Rattle.catalog.proofs.Indexes.{same_decides}
+use Rattle.catalog.specs.Entries.{Located, definition_at, ends_in, initial_of, nowhere, same, stands}
+use Rattle.catalog.proofs.Walks.{EndOf}
+use Rattle.catalog.proofs.Indexes.{end_told, same_decides}
 
 module _ {A : Type 0} where
   -- the one of a number is the one after so many others
@@ -38,15 +39,25 @@ pub record Standing (d : Definition) (e : Entry) : Type 0 where
   pub long : length d ≡ e.statements
   pub initial : initial_of d ≡ e.initial
 
-pub standing : (d : Definition) (e : Entry) → stands d e ≡ true → Standing d e
-standing d e h =
-    let halves = and_parts (same d (definition_at e)) (eqb (length d) e.statements && eqb (initial_of d) e.initial) h in
-    let right = and_parts (eqb (length d) e.statements) (eqb (initial_of d) e.initial) halves.1 in
-    record {
-      is = (same_decides d (definition_at e)).0 halves.0;
-      long = eqb-true (length d) e.statements right.0;
-      initial = eqb-true (initial_of d) e.initial right.1;
-    }
+module _ (text : List ℕ) (d : Definition) (e : Entry) (h : stands text d e ≡ true) where
+  halves : ((ends_in text e.lines.now && same d (definition_at e)) ≡ true) × ((eqb (length d) e.statements && eqb (initial_of d) e.initial) ≡ true)
+  halves = and_parts (ends_in text e.lines.now && same d (definition_at e)) (eqb (length d) e.statements && eqb (initial_of d) e.initial) h
+
+  left : (ends_in text e.lines.now ≡ true) × (same d (definition_at e) ≡ true)
+  left = and_parts (ends_in text e.lines.now) (same d (definition_at e)) halves.0
+
+  pub standing : Standing d e
+  standing =
+      let right = and_parts (eqb (length d) e.statements) (eqb (initial_of d) e.initial) halves.1 in
+      record {
+        is = (same_decides d (definition_at e)).0 left.1;
+        long = eqb-true (length d) e.statements right.0;
+        initial = eqb-true (initial_of d) e.initial right.1;
+      }
+
+  -- and that the entry holds an end of the text
+  pub standing_end : EndOf text e.lines.now
+  standing_end = end_told text e.lines.now left.0
 
 -- what the row of a number tells
 pub located : (s : TextLibrary) (n at : ℕ) (r : Option (Bor Entry)) → n ≡ at + 1 → MatchOption r (length s.entries.items ≤ at) (λ e. (at < length s.entries.items) × HoldsAt (λ y. e.now ≡ y) s.entries.items at)
@@ -55,7 +66,7 @@ located s n at None one past = numbered_past (text_definitions s.text.now) n (om
 located s n at (Some e) one row =
     let D = text_definitions s.text.now in
     let within = row.0 in
-    (get_or D at [], numbered_at D n at one ∙ slice_get-get_or D at [] (omega (arith, within, s.counted)), ap (stands (get_or D at [])) (row.1 nowhere) ∙ s.placed at within)
+    (get_or D at [], numbered_at D n at one ∙ slice_get-get_or D at [] (omega (arith, within, s.counted)), ap (stands s.text.now (get_or D at [])) (row.1 nowhere) ∙ s.placed at within)
 
 -- what a borrowed line shows
 pub shown : (r : Option (Bor (List ℕ))) (o : Option (List ℕ)) → o ≡ option_map (λ t. t.now) r → MatchOption r (o ≡ None) (λ t. o ≡ Some t.now)
@@ -79,7 +90,7 @@ module _ (text : List ℕ) (n s : ℕ) where
         go zero q h = refl
         go (suc k) q (inl l) = absurd (omega (arith, q, l))
         go (suc k) q (inr l) =
-            let long = (standing found.0 e found.2).long in
+            let long = (standing text found.0 e found.2).long in
             numbered_past found.0 (suc k) (omega (arith, q, l, long))
 
     -- it stands so many lines after the MACRO line
@@ -87,7 +98,7 @@ module _ (text : List ℕ) (n s : ℕ) where
     statement_there some h =
         let d = found.0 in
         let L = lines_of e.lines.now in
-        let st = standing d e found.2 in
+        let st = standing text d e found.2 in
         let one : 1 + (at - 1) ≡ at = omega (arith, some) in
         let long = st.long in
         let cut = ap length st.is ∙ length-take e.statements (drop 1 L) in
@@ -107,10 +118,10 @@ module _ (text : List ℕ) (n : ℕ) where
 
   module _ (e : Entry) (found : Located text n (Some e)) where
     pub length_there : length_in (text_definitions text) n ≡ Ok e.statements
-    length_there = length_of (Some found.0) found.1 ∙ ap Ok (standing found.0 e found.2).long
+    length_there = length_of (Some found.0) found.1 ∙ ap Ok (standing text found.0 e found.2).long
 
     pub length_short : e.statements ≤ 255
     length_short =
-        let long = (standing found.0 e found.2).long in
+        let long = (standing text found.0 e found.2).long in
         let short = definition_short found.0 (definition_lawful (text_definitions text) n found.0 (text_lawful text) found.1) in
         omega (arith, long, short)
