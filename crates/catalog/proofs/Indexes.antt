@@ -105,6 +105,13 @@ module _ (text rest opening body : List ℕ) (some : rest ≢ []) (first : openi
     more : length entries < length (all text)
     more = omega (arith, long, long')
 
+    split : get_or (all text) (length entries) [] ∷ drop (length entries + 1) (all text) ≡ take (runs (lines_of body)) (lines_of body) ∷ grouped (drop (runs (lines_of body)) (lines_of body)) false
+    split = sym (drop_more (all text) (length entries) [] more) ∙ x.left ∙ next
+
+    -- there is a definition more, and it is so long
+    pub next_there : (length entries < length (all text)) × (length (get_or (all text) (length entries) []) ≡ runs (lines_of body))
+    next_there = (more, ap length (cons_head _ _ [] _ _ split) ∙ length-take-le (runs (lines_of body)) (lines_of body) (runs_within (lines_of body)))
+
     -- there is room for one definition more of a text in which the check finds no fault
     pub indexed_room : check_of text ≡ None → length entries < 255
     indexed_room passed =
@@ -128,9 +135,6 @@ module _ (text rest opening body : List ℕ) (some : rest ≢ []) (first : openi
 
         end : EndOf text rest'
         end = subst (EndOf text) (sym (r ∙ ap (after e.statements) is)) (end_after e.statements text (past_line rest) (end_after 1 text rest x.end))
-
-        split : get_or D (length entries) [] ∷ drop (length entries + 1) D ≡ take (runs (lines_of body)) (lines_of body) ∷ grouped (drop (runs (lines_of body)) (lines_of body)) false
-        split = sym (drop_more D (length entries) [] more) ∙ x.left ∙ next
 
         lines : lines_of rest' ≡ drop (runs (lines_of body)) (lines_of body)
         lines = ap lines_of (r ∙ ap (λ k. after k body) n) ∙ lines_after (runs (lines_of body)) body

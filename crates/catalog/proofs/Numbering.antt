@@ -7,15 +7,16 @@ use Rattle.std.proofs.lemmas.Option.{slice_get_past, slice_get-get_or}
 use Rattle.libraries.specs.declared.refusals.LibraryRefusal.TheVariants.{Missing}
 use Rattle.std.proofs.lemmas.Bool.{and_parts, eqb-true}
 use Rattle.lines.specs.Texts.{lines_of}
+use Rattle.libraries.specs.Checks.{check_of}
 use Rattle.libraries.specs.Definitions.{Definition, text_definitions}
 use Rattle.libraries.specs.Lookups.{length_in, length_or, numbered, statement_in, statement_or}
-use Rattle.libraries.specs.Reads.{text_lawful}
+use Rattle.libraries.specs.Reads.{passed_some, text_lawful}
 use Rattle.libraries.proofs.Lawfully.{definition_lawful, definition_short}
 use Rattle.catalog.specs.declared.text.TextLibrary.{TextLibrary}
 use Rattle.catalog.specs.declared.entry.Entry.{Entry}
 use Rattle.catalog.specs.Entries.{Located, definition_at, ends_in, initial_of, nowhere, same, stands}
 use Rattle.catalog.proofs.Walks.{EndOf}
-use Rattle.catalog.proofs.Indexes.{end_told, same_decides}
+use Rattle.catalog.proofs.Indexes.{all, end_told, same_decides}
 
 module _ {A : Type 0} where
   -- the one of a number is the one after so many others
@@ -125,3 +126,14 @@ module _ (text : List ℕ) (n : ℕ) where
         let long = (standing text found.0 e found.2).long in
         let short = definition_short found.0 (definition_lawful (text_definitions text) n found.0 (text_lawful text) found.1) in
         omega (arith, long, short)
+
+-- the definition of this place is no longer than a lawful one
+pub place_short : (text : List ℕ) (at n : ℕ) → check_of text ≡ None → at < length (all text) → length (get_or (all text) at []) ≡ n → n ≤ 255
+place_short text at n passed h long =
+    let D = text_definitions text in
+    let same = ap length (passed_some text passed) in
+    let d = get_or D at [] in
+    let there = numbered_at D (at + 1) at refl ∙ slice_get-get_or D at [] (omega (arith, h, same)) in
+    let short = definition_short d (definition_lawful D (at + 1) d (text_lawful text) there) in
+    let long' = ap (λ ds. length (get_or ds at [])) (passed_some text passed) ∙ long in
+    omega (arith, short, long')
