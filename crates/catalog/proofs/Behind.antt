@@ -1,20 +1,61 @@
--- One list of definitions behind another.
-use Rattle.std.proofs.Common.{◌≡◌, ℕ, suc, ◌+◌, ◌≤◌, Bool, true, false, cond, leb, List, [], ◌∷◌, ◌++◌, length, Some, None, Option, MatchOption, sym, refl, ap, ◌∙◌, arith}
+-- One list of definitions behind another: by number, and by name.
+use Rattle.std.proofs.Common.{◌≡◌, ℕ, zero, suc, ◌+◌, ◌-◌, ◌<◌, ◌≤◌, Bool, true, false, cond, ◌&&◌, ltb, leb, List, [], ◌∷◌, ◌++◌, length, Some, None, Option, MatchOption, sym, refl, ap, ◌∙◌, arith}
 use Rattle.std.specs.Str.{bytes_eq}
+use Rattle.std.proofs.lemmas.Bool.{and_parts, ltb-true, ltb-false}
 use Rattle.sources.specs.declared.faults.DefinitionNumber.{DefinitionNumber}
 use Rattle.libraries.specs.Definitions.{Definition, name_of}
-use Rattle.libraries.specs.Lookups.{found_from, found_in, hands, length_in, length_or, numbered, statement_in, statement_or, tells}
+use Rattle.libraries.specs.Lookups.{found_from, found_in, item, length_in, length_or, numbered, statement_in, statement_or}
 use Rattle.catalog.specs.Chained.{chained}
+
+module _ {A : Type 0} where
+  item_before : (xs ys : List A) (k : ℕ) → k < length xs → item (xs ++ ys) k ≡ item xs k
+  item_before [] ys k h = absurd (omega (arith, h))
+  item_before (x ∷ xs) ys zero h = refl
+  item_before (x ∷ xs) ys (suc k) h = item_before xs ys k (omega (arith, h))
+
+  item_behind : (xs ys : List A) (k : ℕ) → item (xs ++ ys) (length xs + k) ≡ item ys k
+  item_behind [] ys k = ap (item ys) (omega arith)
+  item_behind (x ∷ xs) ys k =
+      let e : length (x ∷ xs) + k ≡ suc (length xs + k) = omega arith in
+      ap (item (x ∷ (xs ++ ys))) e ∙ item_behind xs ys k
+
+  pub numbered_before : (xs ys : List A) (n : ℕ) → n ≤ length xs → numbered (xs ++ ys) n ≡ numbered xs n
+  numbered_before xs ys zero h = refl
+  numbered_before xs ys (suc k) h = item_before xs ys k (omega (arith, h))
+
+  pub numbered_behind : (xs ys : List A) (n : ℕ) → length xs < n → numbered (xs ++ ys) n ≡ numbered ys (n - length xs)
+  numbered_behind xs ys n h = go (n - length xs) refl
+    where
+      go : (k : ℕ) → n - length xs ≡ k → numbered (xs ++ ys) n ≡ numbered ys k
+      go zero e = absurd (omega (arith, e, h))
+      go (suc k) e =
+          let m : n ≡ suc (length xs + k) = omega (arith, e) in
+          ap (numbered (xs ++ ys)) m ∙ item_behind xs ys k
+
+module _ (xs ys : List Definition) (n before : ℕ) (fits : Bool) (many : before ≡ length xs) (is : fits ≡ leb (length xs + length ys) 255) where
+  -- the numbers past those of the first list are of the second, where both fit
+  pub chained_behind : (ltb before n && fits) ≡ true → numbered (chained xs ys) n ≡ numbered ys (n - before)
+  chained_behind e =
+      let both = and_parts (ltb before n) fits e in
+      let less = ltb-true before n both.0 in
+      ap (λ z. numbered (cond z (xs ++ ys) xs) n) (sym is ∙ both.1) ∙ numbered_behind xs ys n (omega (arith, less, many)) ∙ ap (λ k. numbered ys (n - k)) (sym many)
+
+  pub chained_before : (ltb before n && fits) ≡ false → numbered (chained xs ys) n ≡ numbered xs n
+  chained_before e = ap (λ z. numbered (cond z (xs ++ ys) xs) n) (sym is) ∙ go fits (ltb before n) refl e
+    where
+      go : (z y : Bool) → ltb before n ≡ y → (y && z) ≡ false → numbered (cond z (xs ++ ys) xs) n ≡ numbered xs n
+      go false y w h = refl
+      go true true w h = cc
+      go true false w h = numbered_before xs ys n (omega (arith, ltb-false before n w, many))
 
 -- the same definition has the same length and statements
 pub same_length : (xs ys : List Definition) (n k : ℕ) → numbered xs n ≡ numbered ys k → length_in ys k ≡ length_in xs n
 unfolding length_in
 same_length xs ys n k e = ap length_or (sym e)
 
-pub same_statement : (xs ys : List Definition) (n k s : ℕ) (buffer : List ℕ) → numbered xs n ≡ numbered ys k
-    → (tells (statement_in ys k s) buffer ≡ tells (statement_in xs n s) buffer) × (hands (statement_in ys k s) buffer ≡ hands (statement_in xs n s) buffer)
+pub same_statement : (xs ys : List Definition) (n k s : ℕ) → numbered xs n ≡ numbered ys k → statement_in ys k s ≡ statement_in xs n s
 unfolding statement_in
-same_statement xs ys n k s buffer e = (ap (λ o. tells (statement_or o s) buffer) (sym e), ap (λ o. hands (statement_or o s) buffer) (sym e))
+same_statement xs ys n k s e = ap (λ o. statement_or o s) (sym e)
 
 -- what is found in the first list is found in both
 found_first : (xs ys : List Definition) (k : ℕ) (name : List ℕ) (d : DefinitionNumber) → found_from k xs name ≡ Some d → found_from k (xs ++ ys) name ≡ Some d
@@ -65,7 +106,7 @@ found_none_moved (y ∷ ys) j k name e = go (bytes_eq (name_of y) name) e (found
     go false h ih = ih h
 
 module _ (xs ys : List Definition) (name : List ℕ) where
-  chained_first : (d : DefinitionNumber) → Some d ≡ found_in xs name → Some d ≡ found_in (chained xs ys) name
+  pub chained_first : (d : DefinitionNumber) → Some d ≡ found_in xs name → Some d ≡ found_in (chained xs ys) name
   unfolding found_in
   chained_first d e = sym (go (leb (length xs + length ys) 255))
     where

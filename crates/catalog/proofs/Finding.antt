@@ -85,7 +85,7 @@ row_of s rows same at h =
     let many = ap length same in
     let below : at < length s.entries.items = omega (arith, h, many) in
     let within : at < length (text_definitions text) = omega (arith, below, s.counted) in
-    let st = standing (get_or (text_definitions text) at []) (get_or rows at nowhere) (ap (λ es. stands (get_or (text_definitions text) at []) (get_or es at nowhere)) same ∙ s.placed at below) in
+    let st = standing text (get_or (text_definitions text) at []) (get_or rows at nowhere) (ap (λ es. stands text (get_or (text_definitions text) at []) (get_or es at nowhere)) same ∙ s.placed at below) in
     record { within = within; stands = st; named = named_in text at (get_or rows at nowhere) within st }
 
 -- so many of the first two lines are read, so many are not, and the name was not in them

@@ -7,14 +7,16 @@ use Rattle.std.proofs.lemmas.Option.{slice_get_past, slice_get-get_or}
 use Rattle.libraries.specs.declared.refusals.LibraryRefusal.TheVariants.{Missing}
 use Rattle.std.proofs.lemmas.Bool.{and_parts, eqb-true}
 use Rattle.lines.specs.Texts.{lines_of}
+use Rattle.libraries.specs.Checks.{check_of}
 use Rattle.libraries.specs.Definitions.{Definition, text_definitions}
 use Rattle.libraries.specs.Lookups.{length_in, length_or, numbered, statement_in, statement_or}
-use Rattle.libraries.specs.Reads.{text_lawful}
+use Rattle.libraries.specs.Reads.{passed_some, text_lawful}
 use Rattle.libraries.proofs.Lawfully.{definition_lawful, definition_short}
 use Rattle.catalog.specs.declared.text.TextLibrary.{TextLibrary}
 use Rattle.catalog.specs.declared.entry.Entry.{Entry}
-use Rattle.catalog.specs.Entries.{Located, definition_at, initial_of, nowhere, same, stands}
-use Rattle.catalog.proofs.Indexes.{same_decides}
+use Rattle.catalog.specs.Entries.{Located, definition_at, ends_in, initial_of, nowhere, same, stands}
+use Rattle.catalog.proofs.Walks.{EndOf}
+use Rattle.catalog.proofs.Indexes.{all, end_told, same_decides}
 
 module _ {A : Type 0} where
   -- the one of a number is the one after so many others
@@ -38,15 +40,25 @@ pub record Standing (d : Definition) (e : Entry) : Type 0 where
   pub long : length d ≡ e.statements
   pub initial : initial_of d ≡ e.initial
 
-pub standing : (d : Definition) (e : Entry) → stands d e ≡ true → Standing d e
-standing d e h =
-    let halves = and_parts (same d (definition_at e)) (eqb (length d) e.statements && eqb (initial_of d) e.initial) h in
-    let right = and_parts (eqb (length d) e.statements) (eqb (initial_of d) e.initial) halves.1 in
-    record {
-      is = (same_decides d (definition_at e)).0 halves.0;
-      long = eqb-true (length d) e.statements right.0;
-      initial = eqb-true (initial_of d) e.initial right.1;
-    }
+module _ (text : List ℕ) (d : Definition) (e : Entry) (h : stands text d e ≡ true) where
+  halves : ((ends_in text e.lines.now && same d (definition_at e)) ≡ true) × ((eqb (length d) e.statements && eqb (initial_of d) e.initial) ≡ true)
+  halves = and_parts (ends_in text e.lines.now && same d (definition_at e)) (eqb (length d) e.statements && eqb (initial_of d) e.initial) h
+
+  left : (ends_in text e.lines.now ≡ true) × (same d (definition_at e) ≡ true)
+  left = and_parts (ends_in text e.lines.now) (same d (definition_at e)) halves.0
+
+  pub standing : Standing d e
+  standing =
+      let right = and_parts (eqb (length d) e.statements) (eqb (initial_of d) e.initial) halves.1 in
+      record {
+        is = (same_decides d (definition_at e)).0 left.1;
+        long = eqb-true (length d) e.statements right.0;
+        initial = eqb-true (initial_of d) e.initial right.1;
+      }
+
+  -- and that the entry holds an end of the text
+  pub standing_end : EndOf text e.lines.now
+  standing_end = end_told text e.lines.now left.0
 
 -- what the row of a number tells
 pub located : (s : TextLibrary) (n at : ℕ) (r : Option (Bor Entry)) → n ≡ at + 1 → MatchOption r (length s.entries.items ≤ at) (λ e. (at < length s.entries.items) × HoldsAt (λ y. e.now ≡ y) s.entries.items at)
@@ -55,7 +67,7 @@ located s n at None one past = numbered_past (text_definitions s.text.now) n (om
 located s n at (Some e) one row =
     let D = text_definitions s.text.now in
     let within = row.0 in
-    (get_or D at [], numbered_at D n at one ∙ slice_get-get_or D at [] (omega (arith, within, s.counted)), ap (stands (get_or D at [])) (row.1 nowhere) ∙ s.placed at within)
+    (get_or D at [], numbered_at D n at one ∙ slice_get-get_or D at [] (omega (arith, within, s.counted)), ap (stands s.text.now (get_or D at [])) (row.1 nowhere) ∙ s.placed at within)
 
 -- what a borrowed line shows
 pub shown : (r : Option (Bor (List ℕ))) (o : Option (List ℕ)) → o ≡ option_map (λ t. t.now) r → MatchOption r (o ≡ None) (λ t. o ≡ Some t.now)
@@ -79,7 +91,7 @@ module _ (text : List ℕ) (n s : ℕ) where
         go zero q h = refl
         go (suc k) q (inl l) = absurd (omega (arith, q, l))
         go (suc k) q (inr l) =
-            let long = (standing found.0 e found.2).long in
+            let long = (standing text found.0 e found.2).long in
             numbered_past found.0 (suc k) (omega (arith, q, l, long))
 
     -- it stands so many lines after the MACRO line
@@ -87,7 +99,7 @@ module _ (text : List ℕ) (n s : ℕ) where
     statement_there some h =
         let d = found.0 in
         let L = lines_of e.lines.now in
-        let st = standing d e found.2 in
+        let st = standing text d e found.2 in
         let one : 1 + (at - 1) ≡ at = omega (arith, some) in
         let long = st.long in
         let cut = ap length st.is ∙ length-take e.statements (drop 1 L) in
@@ -107,10 +119,21 @@ module _ (text : List ℕ) (n : ℕ) where
 
   module _ (e : Entry) (found : Located text n (Some e)) where
     pub length_there : length_in (text_definitions text) n ≡ Ok e.statements
-    length_there = length_of (Some found.0) found.1 ∙ ap Ok (standing found.0 e found.2).long
+    length_there = length_of (Some found.0) found.1 ∙ ap Ok (standing text found.0 e found.2).long
 
     pub length_short : e.statements ≤ 255
     length_short =
-        let long = (standing found.0 e found.2).long in
+        let long = (standing text found.0 e found.2).long in
         let short = definition_short found.0 (definition_lawful (text_definitions text) n found.0 (text_lawful text) found.1) in
         omega (arith, long, short)
+
+-- the definition of this place is no longer than a lawful one
+pub place_short : (text : List ℕ) (at n : ℕ) → check_of text ≡ None → at < length (all text) → length (get_or (all text) at []) ≡ n → n ≤ 255
+place_short text at n passed h long =
+    let D = text_definitions text in
+    let same = ap length (passed_some text passed) in
+    let d = get_or D at [] in
+    let there = numbered_at D (at + 1) at refl ∙ slice_get-get_or D at [] (omega (arith, h, same)) in
+    let short = definition_short d (definition_lawful D (at + 1) d (text_lawful text) there) in
+    let long' = ap (λ ds. length (get_or ds at [])) (passed_some text passed) ∙ long in
+    omega (arith, short, long')

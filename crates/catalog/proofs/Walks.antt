@@ -1,5 +1,7 @@
 -- Walking over the lines of a text.
-use Rattle.std.proofs.Common.{◌≡◌, ℕ, zero, suc, ◌+◌, ◌<◌, ◌≤◌, ◌≢◌, Bool, true, false, cond, List, [], ◌∷◌, length, get_or, take, drop, sym, refl, ap, ◌∙◌, arith, length-drop}
+use Rattle.std.proofs.Common.{◌≡◌, ℕ, zero, suc, ◌+◌, ◌-◌, ◌<◌, ◌≤◌, ◌≢◌, Bool, true, false, cond, ltb, List, [], ◌∷◌, length, get_or, take, drop, sym, refl, ap, ◌∙◌, arith, drop-drop, length-drop}
+use Rattle.std.proofs.lemmas.Bool.{ltb-true, ltb-false}
+use Rattle.std.proofs.lemmas.List.{drop_all}
 use Rattle.lines.specs.Texts.{first_end, first_line, lines_of, past_line}
 use Rattle.lines.proofs.Splitting.{first_line as lines_first, lines_cut}
 use Rattle.libraries.specs.Checks.{body_kind, ends}
@@ -23,6 +25,40 @@ after_length (suc n) t =
     let l = length-drop (first_end t + 1) t in
     let ih = after_length n (past_line t) in
     omega (arith, l, ih)
+
+-- r is an end of t
+pub record EndOf (t r : List ℕ) : Type 0 where
+  pub is : r ≡ drop (length t - length r) t
+  pub short : length r ≤ length t
+
+pub end_whole : (t : List ℕ) → EndOf t t
+end_whole t = record { is = ap (λ n. drop n t) none; short = omega arith }
+  where
+    none : 0 ≡ length t - length t
+    none = omega arith
+
+pub end_drop : (t r : List ℕ) (k : ℕ) → EndOf t r → EndOf t (drop k r)
+end_drop t r k e = record { is = go (ltb k (length r)) refl; short = omega (arith, l, s) }
+  where
+    l : length (drop k r) ≡ length r - k
+    l = length-drop k r
+
+    s : length r ≤ length t
+    s = e.short
+
+    go : (z : Bool) → ltb k (length r) ≡ z → drop k r ≡ drop (length t - length (drop k r)) t
+    go true h =
+        let less = ltb-true k (length r) h in
+        let n : (length t - length r) + k ≡ length t - length (drop k r) = omega (arith, l, s, less) in
+        ap (drop k) e.is ∙ drop-drop k (length t - length r) t ∙ ap (λ x. drop x t) n
+    go false h =
+        let more = ltb-false k (length r) h in
+        let n : length t ≤ length t - length (drop k r) = omega (arith, l, s, more) in
+        drop_all k r more ∙ sym (drop_all (length t - length (drop k r)) t n)
+
+pub end_after : (n : ℕ) (t r : List ℕ) → EndOf t r → EndOf t (after n r)
+end_after zero t r e = e
+end_after (suc n) t r e = end_after n t (past_line r) (end_drop t r (first_end r + 1) e)
 
 -- the first line of a text, nothing where there is none
 pub line_there : (t : List ℕ) → first_line t ≡ get_or (lines_of t) 0 []

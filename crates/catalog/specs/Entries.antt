@@ -1,5 +1,5 @@
 -- Where the definitions of a text stand.
-use Rattle.std.specs.Prelude.{◌≡◌, ℕ, zero, suc, Bool, true, cond, ◌&&◌, List, [], ◌∷◌, length, take, drop, Some, None, Option, ◌==◌, slice_index}
+use Rattle.std.specs.Prelude.{◌≡◌, ℕ, zero, suc, ◌-◌, Bool, true, cond, ◌&&◌, List, [], ◌∷◌, length, take, drop, Some, None, Option, ◌==◌, nat_le, slice_index}
 use lib.Pointwise.{pointwise}
 use Rattle.std.specs.Str.{bytes_eq}
 use Rattle.lines.specs.Texts.{lines_of, past_line}
@@ -30,9 +30,13 @@ same = pointwise bytes_eq
 abbrev pub initial_of : Definition → ℕ
 initial_of d = slice_index (name_of d) 0
 
--- the definition stands where the entry says, as a test
-abbrev pub stands : Definition → Entry → Bool
-stands d e = same d (definition_at e) && (length d == e.statements && initial_of d == e.initial)
+-- the text ends in these bytes, as a test
+abbrev pub ends_in : List ℕ → List ℕ → Bool
+ends_in text r = nat_le (length r) (length text) && bytes_eq r (drop (length text - length r) text)
+
+-- the definition stands where the entry says, at an end of the text, as a test
+abbrev pub stands : List ℕ → Definition → Entry → Bool
+stands text d e = (ends_in text e.lines.now && same d (definition_at e)) && (length d == e.statements && initial_of d == e.initial)
 
 -- the row that is read where the table has none
 abbrev pub nowhere : Entry
@@ -41,4 +45,4 @@ nowhere = record { lines = record { ref_ptr = (0, 0); now = [] }; statements = 0
 -- what is found of the definition of this number: where it stands, or that there is none
 abbrev pub Located : List ℕ → ℕ → Option Entry → Type 0
 Located text n None = numbered (text_definitions text) n ≡ None
-Located text n (Some e) = (d : Definition) × (numbered (text_definitions text) n ≡ Some d) × (stands d e ≡ true)
+Located text n (Some e) = (d : Definition) × (numbered (text_definitions text) n ≡ Some d) × (stands text d e ≡ true)

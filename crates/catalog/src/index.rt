@@ -28,7 +28,8 @@ pub(crate) fn indexed(text: &[u8]) -> TextLibrary<'_>
         let (statements, behind) = statements_in(body);
         entries.push(Entry {
             lines: rest,
-            statements,
+            // Narrowed by `as`, which is proved: a definition of a lawful text has at most 255.
+            statements: statements as u16,
             initial: initial_of(first_line(body)),
         });
         rest = behind;

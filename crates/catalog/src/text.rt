@@ -13,5 +13,5 @@ pub struct TextLibrary<'a> {
     pub(crate) text: &'a [u8],
     pub(crate) entries: ArrayVec<Entry<'a>, DEFINITIONS>,
     ghost counted: { array_vec_len entries ≡ length (text_definitions text.now) },
-    ghost placed: { (i : ℕ) → i < array_vec_len entries → stands (slice_index_or (text_definitions text.now) i []) (slice_index_or entries.items i nowhere) ≡ true },
+    ghost placed: { (i : ℕ) → i < array_vec_len entries → stands text.now (slice_index_or (text_definitions text.now) i []) (slice_index_or entries.items i nowhere) ≡ true },
 }

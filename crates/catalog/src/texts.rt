@@ -52,7 +52,7 @@ impl<'a> TextLibrary<'a> {
     {
         let entry = self.entry(definition)?;
         let at = usize::from(statement);
-        if !(1..=entry.statements).contains(&at) {
+        if !(1..=usize::from(entry.statements)).contains(&at) {
             return None;
         }
         Lines::of(entry.lines).nth(at)
@@ -93,7 +93,7 @@ impl Library for TextLibrary<'_> {
 
     fn length(&self, definition: DefinitionNumber) -> Result<u16, LibraryRefusal> {
         let entry = self.entry(definition.0).ok_or(LibraryRefusal::Missing)?;
-        Ok(entry.statements as u16)
+        Ok(entry.statements)
     }
 
     fn statement(

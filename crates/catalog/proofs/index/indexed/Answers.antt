@@ -1,7 +1,8 @@
-use Rattle.std.proofs.Common.{refl, ap, ◌∙◌, get_or, arith}
+use Rattle.std.proofs.Common.{refl, ap, ◌∙◌, length, get_or, arith}
 use Rattle.lines.specs.Fields.{operation_of}
 use Rattle.lines.specs.Names.{padded}
-use Rattle.catalog.proofs.Indexes.{indexed_done, indexed_more, indexed_room, indexed_shorter}
+use Rattle.catalog.proofs.Indexes.{indexed_done, indexed_more, indexed_room, indexed_shorter, next_there}
+use Rattle.catalog.proofs.Numbering.{place_short}
 use Rattle.catalog.proofs.index.indexed.Goals as goal
 
 pub push-requires : goal.push-requires
@@ -9,6 +10,14 @@ push-requires c =
     let e = c.in-Some.ensures in
     let room = indexed_room c.args.text.now c.loop-body.rest.now _ c.in-Some.body.now e.0 e.1 e.2 c.loop-body.entries.items c.loop-body.invariant c.requires in
     (omega arith, room)
+
+pub overflow_cast-statements : goal.overflow_cast-statements
+overflow_cast-statements c =
+    let e = c.in-Some.ensures in
+    let rows = c.loop-body.entries.items in
+    let next = next_there c.args.text.now c.loop-body.rest.now _ c.in-Some.body.now e.0 e.1 e.2 rows c.loop-body.invariant in
+    let short = place_short c.args.text.now (length rows) _ c.requires next.0 next.1 in
+    omega (arith, short, c.statements_in-statements.ensures.value)
 
 pub loop-body-smaller : goal.loop-body-smaller
 loop-body-smaller c =

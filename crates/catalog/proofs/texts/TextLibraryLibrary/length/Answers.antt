@@ -1,14 +1,9 @@
-use Rattle.std.proofs.Common.{◌≡◌, sym, ap, arith}
+use Rattle.std.proofs.Common.{◌≡◌, sym, ap}
 use Rattle.std.specs.Option.{ok_or}
 use Rattle.std.proofs.lemmas.Result.{err_from_is_err_and}
 use Rattle.libraries.specs.declared.refusals.LibraryRefusal.TheVariants.{Missing}
-use Rattle.catalog.proofs.Numbering.{length_missing, length_short, length_there}
+use Rattle.catalog.proofs.Numbering.{length_missing, length_there}
 use Rattle.catalog.proofs.texts.TextLibraryLibrary.length.Goals as goal
-
-pub overflow_cast-result : goal.overflow_cast-result
-overflow_cast-result c =
-    let short = length_short c.args.self.now.text.now c.args.definition.0 c.in_ok-entry.entry (rw c.in_ok-entry.ensures.ok_part at c.entry.ensures) in
-    omega (arith, short)
 
 pub returns : goal.returns
 returns c = sym (length_there c.args.self.now.text.now c.args.definition.0 c.in_ok-entry.entry (rw c.in_ok-entry.ensures.ok_part at c.entry.ensures))
