@@ -9,6 +9,7 @@ pub mod prototypes;
 pub mod reader;
 pub mod refusals;
 pub mod seen;
+pub mod table;
 pub mod words;
 
 pub use check::{check_text, ends_definition};

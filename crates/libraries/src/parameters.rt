@@ -5,7 +5,7 @@ ghost use Rattle.lines.specs.Division.{parts_of};
 
 use crate::prototypes::{EQUALS, is_default, is_parameter};
 use crate::seen::Seen;
-use arrayvec::ArrayVec;
+use crate::table::Names;
 use lines::{Parts, after_byte, first_at, front, padded_name};
 
 impl Seen {
@@ -52,12 +52,12 @@ pub(crate) fn parameters_fit(operand: &[u8], before: Seen) -> bool
 pub(crate) fn seen_in_name(name: &[u8]) -> Option<Seen>
     ensures { MatchOption result (name_fits name.now ≡ false) (λ s. (name_fits name.now ≡ true) × (s ≡ parameters false (name_seen name.now))) }
 {
-    let mut names = ArrayVec::new();
+    let mut names = Names::new();
     if !name.is_empty() {
         if !is_parameter(name) {
             return None;
         }
-        names.push(padded_name(name));
+        let _ = names.try_push(padded_name(name));
     }
     Some(Seen { names, late: false })
 }

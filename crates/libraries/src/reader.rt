@@ -1,18 +1,17 @@
 // How far a library text is read.
 use crate::flaws::Phase;
-use arrayvec::ArrayVec;
-use lines::NAME_BYTES;
+use crate::table::Names;
 use std::marker::Model;
 
 // The most definitions of a library.
 pub const DEFINITIONS: usize = 255;
 
 // A clause sees how far the text is read, `Reading` of specs/Checks. The default has read nothing yet.
-#[derive(Default, Drop)]
+#[derive(Clone, Copy, Default)]
 pub struct Reader {
     pub(crate) phase: Phase,
     // the macro names so far
-    pub(crate) names: ArrayVec<[u8; NAME_BYTES], DEFINITIONS>,
+    pub(crate) names: Names<DEFINITIONS>,
 }
 
 impl Model for Reader {
@@ -20,5 +19,7 @@ impl Model for Reader {
 
     ghost Value = { Reading };
 
-    ghost view = { λ r. reading r.phase r.names.items };
+    ghost view = { λ r. reading r.phase r.names };
+
+    ghost inverse = { λ r. record { phase = r.phase; names = r.names } };
 }

@@ -1,13 +1,12 @@
 // The parameters of a prototype that were seen so far.
 use crate::prototypes::PARAMETERS;
-use arrayvec::ArrayVec;
-use lines::NAME_BYTES;
+use crate::table::Names;
 use std::marker::Model;
 
 // A clause sees them as `Parameters` of specs/Prototypes.
-#[derive(Drop)]
+#[derive(Clone, Copy)]
 pub struct Seen {
-    pub(crate) names: ArrayVec<[u8; NAME_BYTES], PARAMETERS>,
+    pub(crate) names: Names<PARAMETERS>,
     // a keyword parameter was seen
     pub(crate) late: bool,
 }
@@ -17,5 +16,7 @@ impl Model for Seen {
 
     ghost Value = { Parameters };
 
-    ghost view = { λ s. parameters s.late s.names.items };
+    ghost view = { λ s. parameters s.late s.names };
+
+    ghost inverse = { λ s. record { names = s.names; late = s.late } };
 }
