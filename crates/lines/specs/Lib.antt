@@ -7,5 +7,4 @@ pub mod Division
 pub mod Names
 pub mod Statements
 pub mod Texts
-pub mod Shorts
 pub mod Results

@@ -4,7 +4,8 @@ ghost use Rattle.lines.specs.Names.{padded_to};
 
 use crate::{BLANK, overwrite};
 
-// At most N bytes: an array with a length beside it, in fixed memory, and blanks behind the bytes. It has no `impl Model`: a `Copy`
+// At most N bytes: an array with a length beside it, in fixed memory, and blanks behind the bytes. The fields are open, so that an
+// array which is filled so already becomes a text by a move: who writes them proves that it is. It has no `impl Model`: a `Copy`
 // struct that holds one with a model is not copied where it is passed by value and used again.
 #[derive(Clone, Copy)]
 pub struct Short<const N: usize> {

@@ -3,7 +3,7 @@
 
 use anyhow::bail;
 use listing::SITE_BYTES;
-use polling::{Shape, poll_pile, replies, requests_for};
+use polling::{Shape, poll_pile, reply_line, requests_for};
 use std::env;
 use std::io::{Read, Write};
 
@@ -27,17 +27,21 @@ fn main(rt: HostRuntime) -> anyhow::Result<()> {
     let (Some(layers), Some(list)) = (words.next(), words.next()) else {
         return explain(&rt);
     };
-    let (Ok(shape), Ok(mut requests)) = (
-        layers.as_str().parse::<Shape>(),
-        requests_for(rt.alloc(), list.as_str()),
-    ) else {
+    // The shape first: where it has no name, no buffer is made.
+    let Ok(shape) = layers.as_str().parse::<Shape>() else {
+        return explain(&rt);
+    };
+    let Ok(mut requests) = requests_for(rt.alloc(), list.as_str()) else {
         return explain(&rt);
     };
     // `as`, since a usize has no `From` to u64.
     let mut site = Vec::new(rt.alloc());
     rt.stdin().take(SITE_BYTES as u64).read_to_end(&mut site)?;
     poll_pile(shape, site.as_slice(), requests.as_mut_slice());
-    rt.stdout()
-        .write_all(replies(rt.alloc(), requests.as_slice())?.as_slice())?;
+    // A reply at a time, so that they need no memory for all of them, and those before a failure are printed.
+    for request in requests.iter() {
+        rt.stdout()
+            .write_all(reply_line(rt.alloc(), request)?.as_slice())?;
+    }
     Ok(())
 }

@@ -15,12 +15,17 @@ impl TryFrom<&[u8]> for Line {
 
     ghost try_from_gives = { λ text result. MatchResult result (λ l. (flaw text.now ≡ None) × (text_of l ≡ text.now)) (λ e. flaw text.now ≡ Some e) };
 
+    // The tests come first: a value of 80 bytes that is made before them is copied once more on its way out.
     fn try_from(text: &[u8]) -> Result<Line, Cause> {
-        let bytes = Short::new(text).ok_or(Cause::LineTooLong)?;
+        if text.len() > WIDTH {
+            return Err(Cause::LineTooLong);
+        }
         if !all_characters(text) {
             return Err(Cause::BadCharacter);
         }
-        Ok(Line { bytes })
+        Ok(Line {
+            bytes: Short::new(text).unwrap(),
+        })
     }
 }
 

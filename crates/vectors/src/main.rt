@@ -9,7 +9,7 @@ ghost use Rattle.std.specs.Prelude.{◌<◌};
 
 use anyhow::Context;
 use libraries::{LibraryFault, check_text};
-use polling::{Shape, poll_pile, replies, requests_for};
+use polling::{Shape, poll_pile, reply_line, requests_for};
 use std::alloc::{AllocError, Global};
 use std::io::{Read, Write};
 
@@ -89,8 +89,11 @@ fn run_case(rt: &HostRuntime, asked: &str, text: &[u8]) -> anyhow::Result<()> {
         .context("a case names no shape")?;
     let mut requests = requests_for(rt.alloc(), list)?;
     poll_pile(shape, text, requests.as_mut_slice());
-    rt.stdout()
-        .write_all(replies(rt.alloc(), requests.as_slice())?.as_slice())?;
+    // A reply at a time, as POLL prints them.
+    for request in requests.iter() {
+        rt.stdout()
+            .write_all(reply_line(rt.alloc(), request)?.as_slice())?;
+    }
     Ok(())
 }
 
