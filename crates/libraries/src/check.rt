@@ -104,7 +104,7 @@ impl Reader {
             return Err(fault(LibraryCause::BadPrototype, number));
         }
         let name = padded_name(operation(line));
-        if self.names.as_slice().contains(&name) {
+        if self.names.has(name) {
             return Err(fault(LibraryCause::SameName, number));
         }
         let past_last = self.names.try_push(name).is_err().then_some(macro_line);

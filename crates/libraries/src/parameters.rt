@@ -22,7 +22,7 @@ impl Seen {
         let fine = is_parameter(symbol)
             && is_default(after_byte(part, at))
             && (has_default || !self.late)
-            && !self.names.as_slice().contains(&name);
+            && !self.names.has(name);
         if !fine {
             return false;
         }

@@ -1,6 +1,7 @@
 // A table of names in fixed memory.
 ghost use Rattle.std.specs.Prelude.{◌≡◌, ◌<◌, ◌≤◌, [], ◌∷◌, ◌++◌, length, MatchResult};
 ghost use Rattle.arrayvec.specs.CapacityError.{error_element};
+ghost use Rattle.libraries.specs.Tables.{among};
 
 use arrayvec::CapacityError;
 use lines::{BLANK, NAME_BYTES};
@@ -46,6 +47,13 @@ impl<const N: usize> Names<N> {
         ensures bound { length result.now ≤ N }
     {
         &self.rows[..self.count]
+    }
+
+    // Is the name in the table? A loop over the rows and no contains, which stays a call of its own and takes longer on a few rows.
+    pub fn has(&self, name: [u8; NAME_BYTES]) -> bool
+        ensures { result ≡ among name self.now }
+    {
+        self.as_slice().iter().any(|row| *row == name)
     }
 
     // Adds a name, or hands it back where the table is full.
