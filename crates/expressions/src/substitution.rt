@@ -63,7 +63,7 @@ pub fn substitute<S: Symbols>(
         rest = &rest[reading.width..];
     }
     known?;
-    let Some(text) = held else {
+    let Some(text) = &held else {
         return Ok(None);
     };
     overwrite(buffer, text.as_slice());
