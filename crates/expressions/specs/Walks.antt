@@ -114,10 +114,10 @@ stage_in p = stage_of p.level p.after (waits_in p)
 abbrev pub Stands : {K : Type 0} → Walk K → Stage K → ℕ → Type 0
 Stands p s n = (stage_in p ≡ s) × (length p.levels.now ≡ n)
 
--- what one word does to a walk in a table
+-- what one word does to a walk in a table: a word that is refused leaves the walk, its table too, as it was
 abbrev pub Stepped : {K : Type 0} → Walker K → Walk K → Walk K → Token K → Result (Unit {0}) Flaw → Type 0
 Stepped w p q t (Ok u) = (step_of w (length p.levels.now) (stage_in p) t ≡ Some (stage_in q)) × (length q.levels.now ≡ length p.levels.now)
-Stepped w p q t (Err f) = (step_of w (length p.levels.now) (stage_in p) t ≡ None) × (f ≡ NoForm)
+Stepped w p q t (Err f) = (step_of w (length p.levels.now) (stage_in p) t ≡ None) × (f ≡ NoForm) × (q ≡ p)
 
 -- a walk may end after a product on the outermost level
 abbrev pub Ended : {V : Type 0} → Operations V → Walk V → Result V Flaw → Type 0

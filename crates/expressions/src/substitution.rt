@@ -29,13 +29,16 @@ fn text_given<S: Symbols>(symbols: &S, gives: Gives) -> Option<Text>
     }
 }
 
-// Writes a text behind what is held, if there is room for both.
-fn append(held: Option<Written>, text: &[u8]) -> Option<Written>
-    ensures { (t : List ℕ) → Held held t → Held result (t ++ text.now) }
+// Writes a text behind what is held, in place, if there is room for both.
+fn append(held: &mut Option<Written>, text: &[u8])
+    ensures { (t : List ℕ) → Held held.old t → Held held.new (t ++ text.now) }
 {
-    let mut held = held?;
-    held.try_extend_from_slice(text).ok()?;
-    Some(held)
+    let Some(written) = held else {
+        return;
+    };
+    if written.try_extend_from_slice(text).is_err() {
+        *held = None;
+    }
 }
 
 // Puts the text of a field into the first bytes of the buffer, and answers its length, or `None` where it is too
@@ -54,13 +57,13 @@ pub fn substitute<S: Symbols>(
     while !rest.is_empty() {
         let reading = first_piece(rest)?;
         match text_given(symbols, reading.gives) {
-            Some(text) => held = append(held, text.bytes()),
+            Some(text) => append(&mut held, text.bytes()),
             None => known = Err(Flaw::UnknownSymbol),
         }
         rest = &rest[reading.width..];
     }
     known?;
-    let Some(text) = held else {
+    let Some(text) = &held else {
         return Ok(None);
     };
     overwrite(buffer, text.as_slice());

@@ -17,7 +17,7 @@ loop-rest-preserved g c =
     let rest = c.loop-rest.rest.now in
     let cut = take_rest rest c.in_ok-reading.reading.width in
     elim c.match-text_given.branch [
-      | in-Some w ↦ come_known _ _ rest _ w.bytes.result.now _ w.append-held.result _ _ _ c.in_ok-reading.reading c.in_ok-reading.ensures w.in-Some.ensures.0 (w.bytes.ensures.text ∙ w.in-Some.ensures.1) w.append-held.ensures cut w.held-is w.known-is c.loop-rest.invariant
+      | in-Some w ↦ come_known _ _ rest _ w.bytes.result.now _ _ _ _ _ c.in_ok-reading.reading c.in_ok-reading.ensures w.in-Some.ensures.0 (w.bytes.ensures.text ∙ w.in-Some.ensures.1) w.append.ensures cut w.held-is w.known-is c.loop-rest.invariant
       | in-None w ↦ come_unknown _ _ rest _ _ _ _ _ c.in_ok-reading.reading c.in_ok-reading.ensures w.in-None.ensures cut w.held-is w.known-is c.loop-rest.invariant
     ]
 
