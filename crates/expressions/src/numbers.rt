@@ -26,11 +26,8 @@ pub fn written_number(text: &[u8]) -> Result<i32, Flaw>
 {
     let mut value: i32 = 0;
     for byte in text {
-        let digit = i32::from(byte.saturating_sub(b'0'));
-        value = value
-            .checked_mul(10)
-            .and_then(|tens| tens.checked_add(digit))
-            .ok_or(Flaw::OutOfRange)?;
+        let digit = i64::from(byte.saturating_sub(b'0'));
+        value = i32::try_from(i64::from(value) * 10 + digit).or(Err(Flaw::OutOfRange))?;
     }
     Ok(value)
 }

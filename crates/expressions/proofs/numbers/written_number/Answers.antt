@@ -11,7 +11,7 @@ returns-in_err-value c =
     let n = c.loop-byte.invariant.0 in
     let k = get_or t i 0 - 48 in
     let digit : c.from-digit.result ≡ pos k = search rules in
-    let none : FitsSigned w32 (c.loop-byte.value *ℤ pos 10) → FitsSigned w32 ((c.loop-byte.value *ℤ pos 10) +ℤ c.from-digit.result) → ⊥ = search rules in
-    let high = too_high c.loop-byte.value c.from-digit.result n k (search rules) digit none in
+    let none : FitsSigned w32 ((c.from.result *ℤ pos 10) +ℤ c.from-digit.result) → ⊥ = search rules in
+    let high = too_high c.from.result c.from-digit.result n k (search rules) digit (λ _ s. none s) in
     let least = value_grows (n * 10 + k) (drop (i + 1) t) in
     grind (arith, common_steps)
