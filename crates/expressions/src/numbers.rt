@@ -24,10 +24,12 @@ pub fn all_digits(text: &[u8]) -> bool
 pub fn written_number(text: &[u8]) -> Result<i32, Flaw>
     ensures { result ≡ ranged (value_of text.now) }
 {
+    // What the digits write so far, wide enough for one digit more, and the same as a number.
+    let mut wide: u64 = 0;
     let mut value: i32 = 0;
     for byte in text {
-        let digit = i64::from(byte.saturating_sub(b'0'));
-        value = i32::try_from(i64::from(value) * 10 + digit).or(Err(Flaw::OutOfRange))?;
+        wide = wide * 10 + u64::from(byte.saturating_sub(b'0'));
+        value = i32::try_from(wide).or(Err(Flaw::OutOfRange))?;
     }
     Ok(value)
 }
